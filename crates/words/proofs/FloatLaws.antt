@@ -1,0 +1,89 @@
+-- Laws of floats by their bit patterns: NaNs, infinities, and buffers that have none. Assumes nothing.
+use Prim.Native.Nat.{ℕ, zero, suc, _+_, _/_, _%_, _<_, _≤_}
+use mathlib.Core.Bool.{Bool, true, false, not, cond}
+use mathlib.Core.List.{List}
+use mathlib.Core.Path.{_≡_, refl, sym, _∙_, subst}
+use native.Mathlib.Omega.{arith}
+use lib.Dec.{T, eqb, leb}
+use lib.Ieee.{Float, nan, inf, fin, isNan, nanBits, odd, ofFields, ofBits, toBits, div, ne, binary32}
+use lib.Ieee.Bits.{nanBits-is, nanBits-above}
+use lib.Ieee.Compare.{differs-from-itself}
+use borrow.Author.Tests.{le-leb, lt-leb, lt-ltb, le-ltb, eqb-true, eqb-false}
+use Rattle.words.specs.Bytes.{f32At}
+use Rattle.words.specs.Floats.{notFinite, missing}
+use Rattle.words.proofs.ListLaws.{none-at}
+
+-- ---- NaNs
+
+pub is-nan : (x : Float) → isNan x ≡ true → x ≡ nan
+unfolding isNan
+is-nan nan e = refl
+is-nan (inf s) e = absurd (subst T (sym e) tt)
+is-nan (fin s m e) h = absurd (subst T (sym h) tt)
+
+-- a pattern above an infinity's, its sign dropped, is a NaN
+pub nan-pattern : (n : ℕ) → 0x7F80_0000 < n % 0x8000_0000 → ofBits binary32 n ≡ nan
+nan-pattern n h = is-nan (ofBits binary32 n) (sym (nanBits-is binary32 n) ∙ nanBits-above binary32 n ∙ lt-ltb _ _ h)
+
+-- any other is none
+pub no-nan-pattern : (n : ℕ) → n % 0x8000_0000 ≤ 0x7F80_0000 → T (not (nanBits binary32 n))
+no-nan-pattern n h = subst (λ (b : Bool). T (not b)) (sym (nanBits-above binary32 n ∙ le-ltb _ _ h)) tt
+
+-- zero over zero, by which the code makes its NaN
+pub zero-over-zero : div binary32 (ofBits binary32 0) (ofBits binary32 0) ≡ nan
+unfolding div ofBits
+zero-over-zero = refl
+
+-- what a float test on itself tells
+pub nan-differs-bits : (x : Float) → ne x x ≡ true → toBits binary32 x ≡ 0x7FC0_0000
+unfolding toBits
+nan-differs-bits x e = rw (differs-from-itself x (subst T (sym e) tt)) refl
+
+pub same-no-nan : (x : Float) → ne x x ≡ false → T (not (isNan x))
+unfolding isNan ne
+same-no-nan nan e = absurd (subst T e tt)
+same-no-nan (inf s) e = tt
+same-no-nan (fin s m e) h = tt
+
+-- ---- floats that are not finite
+
+fields : (s : Bool) (x t : ℕ) → notFinite (ofFields binary32 s x t) ≡ eqb x 255
+unfolding ofFields odd
+fields s zero zero = refl
+fields s zero (suc t) = refl
+fields s (suc x) t = go (eqb (suc x) 255) (eqb t 0)
+  where
+    go : (b c : Bool) → notFinite (cond b (cond c (inf s) nan) (odd 24 s (0x80_0000 + t) x 149)) ≡ b
+    go true true = refl
+    go true false = refl
+    go false c = leading (0x80_0000 + t) (omega arith)
+      where
+        leading : (q : ℕ) → 0 < q → notFinite (odd 24 s q x 149) ≡ false
+        leading zero h = absurd (omega arith)
+        leading (suc q) h = refl
+
+same-test : (n : ℕ) → eqb (n % 0x8000_0000 / 0x80_0000) 255 ≡ leb 0x7F80_0000 (n % 0x8000_0000)
+same-test n = go (eqb (n % 0x8000_0000 / 0x80_0000) 255) refl
+  where
+    go : (b : Bool) → eqb (n % 0x8000_0000 / 0x80_0000) 255 ≡ b → b ≡ leb 0x7F80_0000 (n % 0x8000_0000)
+    go true h = let e : n % 0x8000_0000 / 0x80_0000 ≡ 255 = eqb-true _ _ h in sym (le-leb 0x7F80_0000 (n % 0x8000_0000) (omega arith))
+    go false h = let e : n % 0x8000_0000 / 0x80_0000 ≡ 255 → ⊥ = eqb-false _ _ h in sym (lt-leb 0x7F80_0000 (n % 0x8000_0000) (omega arith))
+
+-- a pattern at an infinity's or above, its sign dropped
+pub not-finite-pattern : (n : ℕ) → notFinite (ofBits binary32 n) ≡ leb 0x7F80_0000 (n % 0x8000_0000)
+unfolding ofBits
+not-finite-pattern n = fields (leb 0x8000_0000 n) (n % 0x8000_0000 / 0x80_0000) (n % 0x80_0000) ∙ same-test n
+
+finite-no-nan : (x : Float) → notFinite x ≡ false → T (not (isNan x))
+unfolding isNan
+finite-no-nan nan e = absurd (subst T e tt)
+finite-no-nan (inf s) e = tt
+finite-no-nan (fin s m e) h = tt
+
+pub finite-pattern : (n : ℕ) → notFinite (ofBits binary32 n) ≡ false → T (not (nanBits binary32 n))
+finite-pattern n h = subst (λ (b : Bool). T (not b)) (sym (nanBits-is binary32 n)) (finite-no-nan (ofBits binary32 n) h)
+
+-- a float of a buffer of which none is missing
+pub none-missing : (n : ℕ) (s : List ℕ) → missing n s ≡ false → (i : ℕ) → i < n → notFinite (f32At s i) ≡ false
+unfolding missing
+none-missing n s h = none-at (λ i. notFinite (f32At s i)) n h

@@ -1,0 +1,80 @@
+-- Laws for a table of refusals, `cond test number rest`, and for what a call leaves in its buffer. Assumes nothing.
+use Prim.Native.Nat.{ℕ, zero, suc, _≤_}
+use lib.Dec.{eqb, ltb}
+use lib.ListN.{length}
+use borrow.Author.Tests.{ltb-false, eq-eqb, ne-eqb}
+use mathlib.Core.Bool.{Bool, true, false, _&&_, _||_, cond}
+use mathlib.Core.List.{List}
+use mathlib.Core.Path.{_≡_, refl}
+use native.Mathlib.Omega.{arith}
+use Rattle.words.specs.Refusals.{after, answer, orElse, badDims, badLength}
+
+-- ---- tests
+
+-- where a table gives 0, no test of it holds
+pub no-row : (b : Bool) (n rest : ℕ) → cond b (suc n) rest ≡ 0 → (b ≡ false) × (rest ≡ 0)
+no-row true n rest e = absurd (omega arith)
+no-row false n rest e = (refl, e)
+
+pub neither : (a b : Bool) → (a || b) ≡ false → (a ≡ false) × (b ≡ false)
+neither true b e = (e, cc)
+neither false b e = (refl, e)
+
+pub both : (a b : Bool) → (a && b) ≡ true → (a ≡ true) × (b ≡ true)
+both true b e = (refl, e)
+both false b e = (e, cc)
+
+-- one of two tests, as a call makes them one after the other
+pub first-bad : (a b : Bool) → a ≡ true → (a || b) ≡ true
+first-bad a b e = rw e refl
+
+pub second-bad : (a b : Bool) → a ≡ false → b ≡ true → (a || b) ≡ true
+second-bad a b e f = rw (e, f) refl
+
+pub none-bad : (a b : Bool) → a ≡ false → b ≡ false → (a || b) ≡ false
+none-bad a b e f = rw (e, f) refl
+
+-- what a test of the dims tells
+pub few-dims : (most dims : ℕ) → badDims most dims ≡ false → dims ≤ most
+unfolding badDims
+few-dims most dims e = ltb-false most dims (neither (eqb dims 0) (ltb most dims) e .1)
+
+-- what a test of a length tells
+pub sized : (s : List ℕ) (n : ℕ) → length s ≡ n → badLength s n ≡ false
+unfolding badLength
+sized s n e = rw (eq-eqb (length s) n e)
+
+pub unsized : (s : List ℕ) (n : ℕ) → (length s ≡ n → ⊥) → badLength s n ≡ true
+unfolding badLength
+unsized s n h = rw (ne-eqb (length s) n h)
+
+-- ---- numbers
+
+pub else-first : (a b : ℕ) → (a ≡ 0 → ⊥) → orElse a b ≡ a
+unfolding orElse
+else-first zero b h = absurd (h refl)
+else-first (suc a) b h = refl
+
+pub else-second : (a b : ℕ) → a ≡ 0 → orElse a b ≡ b
+unfolding orElse
+else-second a b e = rw e refl
+
+-- ---- buffers
+
+pub after-accepted : (n : ℕ) (old new : List ℕ) → n ≡ 0 → after n old new ≡ new
+unfolding after
+after-accepted n old new e = rw e refl
+
+pub after-refused : (n : ℕ) (old new : List ℕ) → (n ≡ 0 → ⊥) → after n old new ≡ old
+unfolding after
+after-refused zero old new h = absurd (h refl)
+after-refused (suc n) old new h = refl
+
+-- an accepted answer, and a refused one
+pub accepts : (n : ℕ) (old new now : List ℕ) → n ≡ 0 → now ≡ new → (0, now) ≡ answer n old new
+unfolding answer after
+accepts n old new now e f = rw (e, f) refl
+
+pub refuses : (n m : ℕ) (old new : List ℕ) → n ≡ suc m → (suc m, old) ≡ answer n old new
+unfolding answer after
+refuses n m old new e = rw e refl

@@ -1,0 +1,25 @@
+-- `words::finite_at` meets its contract. Assumes nothing.
+use mathlib.Core.Path.{ap}
+use lib.Ieee.{ofBits, binary32}
+use Rattle.words.specs.Bytes.{f32At}
+use Rattle.words.proofs.FloatLaws.{finite-pattern}
+use borrow.Author.Needs.{needs}
+use Rattle.words.proofs.finite_at.Statement.{statement}
+use Rattle.words.proofs.finite_at.Tie as tie
+
+mul-u32-at : tie.Need-mul-u32-at
+mul-u32-at c = search needs
+
+u32-at-requires : tie.Need-u32-at-requires
+u32-at-requires c κs = search needs
+
+float-from-bits-result : tie.Need-float-from-bits-result
+unfolding f32At
+float-from-bits-result c = finite-pattern _ (rw (c .u32-at .ensures) (c .before .before .pre .1))
+
+returns : tie.Need-returns
+unfolding f32At
+returns c = ap (ofBits binary32) (c .u32-at .ensures)
+
+pub finite-at-spec : {M : Type 1} → statement M
+finite-at-spec = tie.close (tie.spec mul-u32-at u32-at-requires float-from-bits-result returns)

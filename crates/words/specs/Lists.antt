@@ -1,0 +1,19 @@
+-- Lists by what stands at each place.
+use Prim.Native.Nat.{ℕ, zero, suc}
+use mathlib.Core.Bool.{Bool, false, _||_}
+use mathlib.Core.List.{List, [], _∷_, _++_}
+
+-- p holds at some place below n
+unfoldable pub anyBelow : ℕ → (ℕ → Bool) → Bool
+anyBelow zero p = false
+anyBelow (suc n) p = anyBelow n p || p n
+
+-- f 0 ++ f 1 ++ .. ++ f (n - 1)
+unfoldable pub joined : ℕ → (ℕ → List ℕ) → List ℕ
+joined zero f = []
+joined (suc n) f = joined n f ++ f n
+
+-- f 0, f 1, .., f (n - 1)
+unfoldable pub tabulate : ℕ → (ℕ → ℕ) → List ℕ
+unfolding joined
+tabulate n f = joined n (λ i. f i ∷ [])

@@ -1,0 +1,249 @@
+// What every module speaks: numbers and floats in little-endian bytes, the refusal numbers, the limits, the metric.
+ghost use mathlib.Core.Path.{_≡_};
+ghost use Prim.Native.Nat.{_+_, _*_, _≤_, _<_};
+ghost use lib.ListN.{length, getD, set};
+ghost use lib.Seq.{sets};
+ghost use mathlib.Core.Bool.{true, false, cond};
+ghost use Rattle.words.specs.Bytes.{numAt, bytesOf, f32At, floatBytes};
+ghost use Rattle.words.specs.Floats.{notFinite, missing};
+ghost use Rattle.words.specs.Limits.{mostScalarDims};
+ghost use Rattle.words.specs.Metrics.{metricOf};
+ghost use Rattle.words.specs.Refusals.{badDims, badForm};
+
+// The paper's refusal numbers, as a call returns them.
+pub const ACCEPTED: u32 = 0;
+
+pub const BAD_DIMS: u32 = 1;
+
+pub const BAD_WIDTH: u32 = 2;
+
+pub const BAD_LENGTH: u32 = 3;
+
+pub const MISSING: u32 = 4;
+
+pub const BAD_VALUE: u32 = 5;
+
+pub const OUT_OF_RANGE: u32 = 6;
+
+pub const NO_ROOM: u32 = 7;
+
+pub const NO_ESTIMATE: u32 = 8;
+
+pub const NOT_ASKED: u32 = 9;
+
+// The paper's limits (specs/Limits says of what).
+pub const MOST_DIMS: u32 = 4369;
+
+pub const MOST_SCALAR_DIMS: u32 = 65535;
+
+pub const TOP_CODE: u8 = 15;
+
+pub const MOST_RECORDS: u32 = 1048576;
+
+pub const MOST_PLACES: usize = 4096;
+
+pub enum Metric {
+    L2,
+    Dot,
+}
+
+// The metric of a number that is one's.
+pub fn metric_of(n: u32) -> Metric
+    ensures { λ r. ⌜ r ≡ metricOf n ⌝ }
+{
+    if n == 1 { Metric::L2 } else { Metric::Dot }
+}
+
+// Whether n is no metric's number, and no layout's: neither 1 nor 2.
+pub fn bad_form(n: u32) -> bool
+    ensures { λ r. ⌜ r ≡ badForm n ⌝ }
+{
+    if n == 1 {
+        return false;
+    }
+    n != 2
+}
+
+// Whether dims is 0 or above the most.
+pub fn bad_dims(dims: u32, most: u32) -> bool
+    ensures { λ r. ⌜ r ≡ badDims most dims ⌝ }
+{
+    if dims == 0 {
+        return true;
+    }
+    most < dims
+}
+
+// A byte as a wider number. The bound stands in the contract so that a caller's sums are closed by omega.
+pub fn wide(x: u8) -> u32
+    ensures { λ r. ⌜ (r ≡ x) × (r < 256) ⌝ }
+{
+    x as u32
+}
+
+// Byte i of s, and 0 past its end.
+pub fn byte_at(s: &[u8], i: usize) -> u8
+    ensures { λ r. ⌜ r ≡ getD (now (s .entry)) i 0 ⌝ }
+{
+    if i < s.len() { s[i] } else { 0 }
+}
+
+// The 32-bit number that four bytes write, lowest first. The bytes are a part of their own, so that the places in it
+// are constants: LLVM makes one load of that, and whole vectors of the loops over it.
+fn word(p: &[u8]) -> u32
+    requires { ⌜ length (now p) ≡ 4 ⌝ }
+    ensures { λ r. ⌜ r ≡ numAt 4 (now (p .entry)) 0 ⌝ }
+{
+    let b0 = wide(p[0]);
+    let b1 = wide(p[1]);
+    let b2 = wide(p[2]);
+    let b3 = wide(p[3]);
+    b0 + b1 * 0x100 + b2 * 0x1_0000 + b3 * 0x100_0000
+}
+
+// The 32-bit number whose four bytes stand at place at, lowest first.
+pub fn u32_at(s: &[u8], at: usize) -> u32
+    requires { ⌜ at + 4 ≤ length (now s) ⌝ }
+    ensures { λ r. ⌜ r ≡ numAt 4 (now (s .entry)) at ⌝ }
+{
+    let end = at + 4;
+    word(&s[at..end])
+}
+
+// The 64-bit number whose eight bytes stand at place at, lowest first.
+pub fn u64_at(s: &[u8], at: usize) -> u64
+    requires { ⌜ at + 8 ≤ length (now s) ⌝ }
+    ensures { λ r. ⌜ r ≡ numAt 8 (now (s .entry)) at ⌝ }
+{
+    let lo = u32_at(s, at);
+    let hi = u32_at(s, at + 4);
+    (lo as u64) + (hi as u64) * 0x1_0000_0000
+}
+
+// The float whose four bytes are those of place i, for every bit pattern: a NaN pattern gives a NaN.
+pub fn f32_at(s: &[u8], i: usize) -> f32
+    requires { ⌜ 4 * i + 4 ≤ length (now s) ⌝ }
+    ensures { λ r. ⌜ r ≡ f32At (now (s .entry)) i ⌝ }
+{
+    let n = u32_at(s, 4 * i);
+    if 0x7F80_0000 < n % 0x8000_0000 {
+        return 0.0 / 0.0;
+    }
+    f32::from_bits(n)
+}
+
+// The float of place i where it is finite.
+pub fn finite_at(s: &[u8], i: usize) -> f32
+    requires { ⌜ (4 * i + 4 ≤ length (now s)) × (notFinite (f32At (now s) i) ≡ false) ⌝ }
+    ensures { λ r. ⌜ r ≡ f32At (now (s .entry)) i ⌝ }
+{
+    f32::from_bits(u32_at(s, 4 * i))
+}
+
+// 1 where the float of place i is a NaN or an infinity, else 0. A mask in place of the quotient would split the load.
+fn not_finite(s: &[u8], i: usize) -> u32
+    requires { ⌜ 4 * i + 4 ≤ length (now s) ⌝ }
+    ensures { λ r. ⌜ (r ≡ cond (notFinite (f32At (now (s .entry)) i)) 1 0) × (r ≤ 1) ⌝ }
+{
+    let n = u32_at(s, 4 * i);
+    let sign = n / 0x8000_0000;
+    if 0x7F80_0000 <= n - sign * 0x8000_0000 {
+        1
+    } else {
+        0
+    }
+}
+
+// Whether one of the first n floats of s is a NaN or an infinity. The loop counts and doesn't leave early: so it goes by vectors.
+pub fn any_missing(s: &[u8], n: usize) -> bool
+    requires { ⌜ (4 * n ≤ length (now s)) × (n ≤ mostScalarDims) ⌝ }
+    ensures { λ r. ⌜ r ≡ missing n (now (s .entry)) ⌝ }
+{
+    let mut bad: u32 = 0;
+    let mut i = 0usize;
+    while i < n {
+        bad += not_finite(s, i);
+        i += 1;
+    }
+    0 < bad
+}
+
+// The byte x at place at.
+pub fn put_u8(out: &mut [u8], at: usize, x: u8)
+    requires { ⌜ at < length (now out) ⌝ }
+    ensures { λ _. ⌜ now (out .exit) ≡ set (now (out .entry)) at x ⌝ }
+{
+    out[at] = x;
+}
+
+// The four bytes of x, lowest first. The part is of its own as that of `word` is.
+fn put_word(p: &mut [u8], x: u32)
+    requires { ⌜ length (now p) ≡ 4 ⌝ }
+    ensures { λ _. ⌜ now (p .exit) ≡ bytesOf 4 x ⌝ }
+{
+    let x1 = x / 256;
+    let x2 = x1 / 256;
+    let x3 = x2 / 256;
+    p[0] = (x % 256) as u8;
+    p[1] = (x1 % 256) as u8;
+    p[2] = (x2 % 256) as u8;
+    p[3] = (x3 % 256) as u8;
+}
+
+// The four bytes of x, lowest first, from place at on.
+pub fn put_u32(out: &mut [u8], at: usize, x: u32)
+    requires { ⌜ at + 4 ≤ length (now out) ⌝ }
+    ensures { λ _. ⌜ now (out .exit) ≡ sets (now (out .entry)) at (bytesOf 4 x) ⌝ }
+{
+    let end = at + 4;
+    put_word(&mut out[at..end], x);
+}
+
+// The eight bytes of x, lowest first, from place at on.
+pub fn put_u64(out: &mut [u8], at: usize, x: u64)
+    requires { ⌜ at + 8 ≤ length (now out) ⌝ }
+    ensures { λ _. ⌜ now (out .exit) ≡ sets (now (out .entry)) at (bytesOf 8 x) ⌝ }
+{
+    put_u32(out, at, (x % 0x1_0000_0000) as u32);
+    put_u32(out, at + 4, (x / 0x1_0000_0000) as u32);
+}
+
+// The four bytes of a float, from place at on. A NaN is written as the one pattern 0x7FC0_0000.
+pub fn put_f32(out: &mut [u8], at: usize, x: f32)
+    requires { ⌜ at + 4 ≤ length (now out) ⌝ }
+    ensures { λ _. ⌜ now (out .exit) ≡ sets (now (out .entry)) at (floatBytes x) ⌝ }
+{
+    if x != x {
+        put_u32(out, at, 0x7FC0_0000);
+    } else {
+        put_u32(out, at, f32::to_bits(x));
+    }
+}
+
+// The bytes of s, from place at on.
+pub fn put_bytes(out: &mut [u8], at: usize, s: &[u8])
+    requires { ⌜ at + length (now s) ≤ length (now out) ⌝ }
+    ensures { λ _. ⌜ now (out .exit) ≡ sets (now (out .entry)) at (now (s .entry)) ⌝ }
+{
+    let mut i = 0;
+    while i < s.len() {
+        out[at + i] = s[i];
+        i += 1;
+    }
+}
+
+// A 32-bit number as a whole buffer.
+pub fn put_number(out: &mut [u8], x: u32)
+    requires { ⌜ length (now out) ≡ 4 ⌝ }
+    ensures { λ _. ⌜ now (out .exit) ≡ bytesOf 4 x ⌝ }
+{
+    put_u32(out, 0, x);
+}
+
+// A float as a whole buffer.
+pub fn put_float(out: &mut [u8], x: f32)
+    requires { ⌜ length (now out) ≡ 4 ⌝ }
+    ensures { λ _. ⌜ now (out .exit) ≡ floatBytes x ⌝ }
+{
+    put_f32(out, 0, x);
+}

@@ -68,7 +68,8 @@ join-digit w (suc n) j f h l =
       | inr k ↦
           let d : ℕ = n - suc j in
           let z : n ≡ suc j + d = omega arith in
-          let p : f n * 2 ^ (w * n) ≡ f n * 2 ^ (w * d) * 2 ^ w * 2 ^ (w * j) = ap (λ (x : ℕ). f n * 2 ^ (w * x)) z ∙ ap (λ (x : ℕ). f n * x) (split w j d) ∙ regroup (f n) (2 ^ (w * d)) (2 ^ w) (2 ^ (w * j)) in
+          let p : f n * 2 ^ (w * n) ≡ f n * 2 ^ (w * d) * 2 ^ w * 2 ^ (w * j) =
+          ap (λ (x : ℕ). f n * 2 ^ (w * x)) z ∙ ap (λ (x : ℕ). f n * x) (split w j d) ∙ regroup (f n) (2 ^ (w * d)) (2 ^ w) (2 ^ (w * j)) in
           rw (p, add-mul-div-right (join w n f) (f n * 2 ^ (w * d) * 2 ^ w) (pow-pos (w * j)), add-mul-mod-self-right)
           (join-digit w n j f h (omega arith))
     ])
@@ -90,7 +91,19 @@ bit-lt n i = mod-lt (n / 2 ^ i) (zero-lt-suc 1)
 -- a number below 16 is its four digits
 pub bit-four : (n : ℕ) → n < 16 → bit n 0 + 2 * bit n 1 + 4 * bit n 2 + 8 * bit n 3 ≡ n
 bit-four n h =
-    omega (arith, bit-first n, bit-next n 0, bit-first (n / 2), bit-next n 1, bit-next (n / 2) 0, bit-first (n / 2 / 2), bit-next n 2, bit-next (n / 2) 1, bit-next (n / 2 / 2) 0, bit-first (n / 2 / 2 / 2))
+    omega (
+      arith,
+      bit-first n,
+      bit-next n 0,
+      bit-first (n / 2),
+      bit-next n 1,
+      bit-next (n / 2) 0,
+      bit-first (n / 2 / 2),
+      bit-next n 2,
+      bit-next (n / 2) 1,
+      bit-next (n / 2 / 2) 0,
+      bit-first (n / 2 / 2 / 2),
+    )
 
 -- ---- binary digits put together
 
@@ -200,7 +213,8 @@ unfolding bit
 join-kept zero most at y b h =
     join-none 1 (λ j. kept most b (at + j)) ∙ sym (ap (λ (k : ℕ). y % 2 ^ k) (zero-min (most - at)) ∙ mod-one y)
 join-kept (suc n) most at y b h =
-    ap (λ (k : ℕ). join 1 k (λ j. kept most b (at + j))) (sym (add-one n)) ∙ join-more 1 n (λ j. kept most b (at + j)) ∙ ap (λ (x : ℕ). join 1 n (λ j. kept most b (at + j)) + x) (at-one (λ j. kept most b (at + j)) n)
+    ap (λ (k : ℕ). join 1 k (λ j. kept most b (at + j))) (sym (add-one n)) ∙ join-more 1 n (λ j. kept most b (at + j)) ∙ ap
+    (λ (x : ℕ). join 1 n (λ j. kept most b (at + j)) + x) (at-one (λ j. kept most b (at + j)) n)
     ∙ ap (λ (x : ℕ). x + kept most b (at + n) * 2 ^ n) (join-kept n most at y b (λ j l. h j (omega arith)))
     ∙ ⊎-elim inside outside (lt-or-ge (at + n) most)
   where

@@ -32,7 +32,8 @@ loop-less : tie.Need-loop-less Inv-loop μ-loop
 loop-less c = omega arith
 
 loop-again : tie.Need-loop-again Inv-loop μ-loop
-loop-again c = let l = c .before .before .loop in (omega arith, omega arith, any-more _ (l .i) (l .bad) (c .not-finite .result) (l .inv .2) (c .not-finite .ensures .0))
+loop-again c = let l = c .before .before .loop in
+    (omega arith, omega arith, any-more _ (l .i) (l .bad) (c .not-finite .result) (l .inv .2) (c .not-finite .ensures .0))
 
 returns : tie.Need-returns Inv-loop μ-loop
 unfolding missing

@@ -23,11 +23,13 @@ sub-if1 c = search needs
 
 returns : tie.Need-returns
 unfolding f32At
-returns c = (rw (sym (c .before .u32-at .ensures), not-finite-pattern, le-leb 0x7F80_0000 (c .before .u32-at .result % 0x8000_0000) (omega arith)) refl, omega arith)
+returns c =
+    (rw (sym (c .before .u32-at .ensures), not-finite-pattern, le-leb 0x7F80_0000 (c .before .u32-at .result % 0x8000_0000) (omega arith)) refl, omega arith)
 
 returns-2 : tie.Need-returns-2
 unfolding f32At
-returns-2 c = (rw (sym (c .before .u32-at .ensures), not-finite-pattern, lt-leb 0x7F80_0000 (c .before .u32-at .result % 0x8000_0000) (omega arith)) refl, omega arith)
+returns-2 c =
+    (rw (sym (c .before .u32-at .ensures), not-finite-pattern, lt-leb 0x7F80_0000 (c .before .u32-at .result % 0x8000_0000) (omega arith)) refl, omega arith)
 
 pub not-finite-spec : {M : Type 1} → statement M
 not-finite-spec = tie.close (tie.spec mul-u32-at u32-at-requires mul-if1 sub-if1 returns returns-2)

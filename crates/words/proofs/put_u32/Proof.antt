@@ -27,7 +27,8 @@ same-length c = search needs
 returns : tie.Need-returns
 returns c =
     let a = c .before .before .before .before .before .args in
-    rw (c .before .before .put-word .ensures) (put-part (now (a .out)) (a .at) 4 (bytesOf 4 (a .x)) (length-bytesOf 4 (a .x)) (c .before .before .before .before .before .pre))
+    rw (c .before .before .put-word .ensures)
+    (put-part (now (a .out)) (a .at) 4 (bytesOf 4 (a .x)) (length-bytesOf 4 (a .x)) (c .before .before .before .before .before .pre))
 
 pub put-u32-spec : {M : Type 1} → statement M
 put-u32-spec =

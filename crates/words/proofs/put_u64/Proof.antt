@@ -32,7 +32,8 @@ unfolding bytesOf
 returns c =
     let a = c .before .before .before .before .before .before .before .before .before .args in
     rw (c .before .before .put-u322 .ensures, c .before .before .before .before .before .before .put-u32 .ensures)
-    (sets-append (now (a .out)) (a .at) (bytesOf 4 (a .x % 0x1_0000_0000)) (bytesOf 4 (a .x / 0x1_0000_0000)) ∙ ap (sets (now (a .out)) (a .at)) (bytes-8 (a .x)))
+    (sets-append (now (a .out)) (a .at) (bytesOf 4 (a .x % 0x1_0000_0000)) (bytesOf 4 (a .x / 0x1_0000_0000)) ∙ ap (sets (now (a .out)) (a .at))
+    (bytes-8 (a .x)))
 
 pub put-u64-spec : {M : Type 1} → statement M
 put-u64-spec =

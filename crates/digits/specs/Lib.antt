@@ -1,0 +1,3 @@
+pub mod Digits
+pub mod Found
+pub mod Calls

@@ -1,0 +1,119 @@
+// What other crates of ours call, within what they have tested. The workers take the number of bits and are called with
+// a literal for each width: LLVM makes a loop of its own of each, and one proof serves the four.
+ghost use mathlib.Core.Path.{_≡_};
+ghost use mathlib.Core.Bool.{true, false};
+ghost use Prim.Native.Nat.{ℕ, _+_, _*_, _/_, _%_, _^_, _≤_, _<_, max};
+ghost use lib.Dec.{ltb};
+ghost use lib.ListN.{length, getD};
+ghost use Rattle.words.specs.Digits.{join};
+ghost use Rattle.words.specs.Limits.{mostScalarDims};
+ghost use Rattle.digits.specs.Digits.{bitsOf, isWidth, levels, top, perByte, packedSize, digitAt, packed};
+ghost use Rattle.digits.specs.Calls.{aboveTop};
+use super::Width;
+
+// How many bytes dims codes take.
+pub fn packed_size(w: Width, dims: usize) -> usize
+    requires { ⌜ dims ≤ mostScalarDims ⌝ }
+    ensures { λ r. ⌜ (r ≡ packedSize (bitsOf w) dims) × (r ≤ mostScalarDims) ⌝ }
+{
+    match w {
+        Width::One => (dims + 7) / 8,
+        Width::Two => (dims * 2 + 7) / 8,
+        Width::Four => (dims * 4 + 7) / 8,
+        Width::Eight => dims,
+    }
+}
+
+// The code of s that starts at its bit o: the lowest bits of what stands there, as many as `levels` has.
+pub fn code_from(levels: u32, s: &[u8], o: usize) -> u32
+    requires { ⌜ (o / 8 < length (now s)) × (0 < levels) ⌝ }
+    ensures { λ r. ⌜ (r ≡ getD (now (s .entry)) (o / 8) 0 / 2 ^ (o % 8) % levels) × (r < levels) ⌝ }
+{
+    let b = words::wide(s[o / 8]);
+    (b >> (o % 8)) % levels
+}
+
+// Digit i of the packed bytes s.
+pub fn digit(w: Width, s: &[u8], i: usize) -> u32
+    requires { ⌜ (i / perByte (bitsOf w) < length (now s)) × (i ≤ mostScalarDims) ⌝ }
+    ensures { λ r. ⌜ (r ≡ digitAt (bitsOf w) (now (s .entry)) i) ⌝ }
+{
+    match w {
+        Width::One => code_from(Width::LEVELS_1, s, i),
+        Width::Two => code_from(Width::LEVELS_2, s, i * 2),
+        Width::Four => code_from(Width::LEVELS_4, s, i * 4),
+        Width::Eight => code_from(Width::LEVELS_8, s, i * 8),
+    }
+}
+
+// Whether a code is above the top code of the width.
+pub fn above_top(w: Width, codes: &[u8]) -> bool
+    ensures { λ r. ⌜ r ≡ aboveTop (top (bitsOf w)) (now (codes .entry)) ⌝ }
+{
+    let t = w.top();
+    t < (largest(codes) as u32)
+}
+
+// The largest of the codes.
+fn largest(codes: &[u8]) -> u8
+    ensures { λ r. ⌜ ((t : ℕ) → ltb t r ≡ aboveTop t (now (codes .entry))) ⌝ }
+{
+    let mut m: u8 = 0;
+    let mut i = 0usize;
+    while i < codes.len() {
+        m = larger(m, codes[i]);
+        i += 1;
+    }
+    m
+}
+
+fn larger(a: u8, b: u8) -> u8
+    ensures { λ r. ⌜ r ≡ max a b ⌝ }
+{
+    if a < b { b } else { a }
+}
+
+// The codes, packed.
+pub fn pack(w: Width, codes: &[u8], out: &mut [u8])
+    requires { ⌜ (length (now codes) ≤ mostScalarDims) × (length (now out) ≡ packedSize (bitsOf w) (length (now codes))) × (aboveTop (top (bitsOf w)) (now codes) ≡ false) ⌝ }
+    ensures { λ r. ⌜ now (out .exit) ≡ packed (bitsOf w) (now (codes .entry)) ⌝ }
+{
+    match w {
+        Width::One => pack_bits(1, Width::CODES_PER_BYTE_1, codes, out),
+        Width::Two => pack_bits(2, Width::CODES_PER_BYTE_2, codes, out),
+        Width::Four => pack_bits(4, Width::CODES_PER_BYTE_4, codes, out),
+        Width::Eight => pack_bits(8, Width::CODES_PER_BYTE_8, codes, out),
+    }
+}
+
+fn pack_bits(bits: u32, per: usize, codes: &[u8], out: &mut [u8])
+    requires { ⌜ (isWidth bits ≡ true) × (per ≡ perByte bits) × (length (now codes) ≤ mostScalarDims) × (length (now out) ≡ packedSize bits (length (now codes))) × (aboveTop (top bits) (now codes) ≡ false) ⌝ }
+    ensures { λ r. ⌜ now (out .exit) ≡ packed bits (now (codes .entry)) ⌝ }
+{
+    let mut k = 0usize;
+    let mut at = 0usize;
+    while at + per <= codes.len() {
+        out[k] = join_codes(bits, per, codes, at);
+        k += 1;
+        at += per;
+    }
+    if at < codes.len() {
+        out[k] = join_codes(bits, codes.len() - at, codes, at);
+    }
+}
+
+// n codes from place at on, in one byte.
+fn join_codes(bits: u32, n: usize, codes: &[u8], at: usize) -> u8
+    requires { ⌜ (isWidth bits ≡ true) × (n ≤ perByte bits) × (at + n ≤ length (now codes)) × (aboveTop (top bits) (now codes) ≡ false) ⌝ }
+    ensures { λ r. ⌜ r ≡ join bits n (λ j. getD (now (codes .entry)) (at + j) 0) ⌝ }
+{
+    let mut byte: u8 = 0;
+    let mut place: u32 = 0;
+    let mut j = 0usize;
+    while j < n {
+        byte += codes[at + j] << place;
+        place += bits;
+        j += 1;
+    }
+    byte
+}

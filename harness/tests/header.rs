@@ -1,0 +1,81 @@
+//! The declarations that the harness calls are those of include/lintelkite.h: names, order, parameters and types.
+
+use std::collections::BTreeMap;
+
+/// A function: its name, then each parameter's name and type, spelled the C way.
+type Function = (String, Vec<(String, String)>);
+
+fn one_line(text: &str) -> String {
+    text.split_whitespace().collect::<Vec<_>>().join(" ")
+}
+
+/// The text without /* .. */ comments and preprocessor lines.
+fn bare_c(text: &str) -> String {
+    let mut bare = String::new();
+    let mut rest = text;
+    while let Some(at) = rest.find("/*") {
+        bare.push_str(&rest[..at]);
+        bare.push(' ');
+        rest = &rest[at + 2..];
+        rest = &rest[rest.find("*/").expect("a comment ends") + 2..];
+    }
+    bare.push_str(rest);
+    bare.lines().filter(|line| !line.trim_start().starts_with('#')).collect::<Vec<_>>().join("\n")
+}
+
+fn c_functions(header: &str) -> Vec<Function> {
+    let mut found = Vec::new();
+    for piece in bare_c(header).split(';') {
+        let piece = one_line(piece);
+        let Some(at) = piece.find("uint32_t lk_") else { continue };
+        let (name, parameters) = piece[at + "uint32_t ".len()..].split_once('(').expect("a parameter list");
+        let parameters = parameters.strip_suffix(')').expect("a parameter list ends");
+        let parameters = parameters.split(',').map(|parameter| {
+            let cut = parameter.rfind([' ', '*']).unwrap() + 1;
+            (parameter[cut..].to_string(), one_line(&parameter[..cut]))
+        });
+        found.push((name.to_string(), parameters.collect()));
+    }
+    found
+}
+
+fn rust_functions(sys: &str) -> Vec<Function> {
+    let c = BTreeMap::from([
+        ("u32", "uint32_t"),
+        ("f32", "float"),
+        ("usize", "size_t"),
+        ("*const u8", "const uint8_t *"),
+        ("*mut u8", "uint8_t *"),
+    ]);
+    let mut found = Vec::new();
+    for piece in one_line(sys).split("pub fn ").skip(1) {
+        let (name, rest) = piece.split_once('(').expect("a parameter list");
+        let (parameters, rest) = rest.split_once(')').expect("a parameter list ends");
+        assert!(rest.starts_with(" -> u32;"), "{name} returns a number");
+        let parameters =
+            parameters.split(',').map(str::trim).filter(|parameter| !parameter.is_empty()).map(|parameter| {
+                let (name, kind) = parameter.split_once(": ").expect("a type");
+                (name.to_string(), c[kind].to_string())
+            });
+        found.push((name.to_string(), parameters.collect()));
+    }
+    found
+}
+
+#[test]
+fn the_header_and_sys_declare_the_same() {
+    let header = c_functions(include_str!("../../include/lintelkite.h"));
+    let sys = rust_functions(include_str!("../src/sys.rs"));
+    assert!(!header.is_empty());
+    assert_eq!(header, sys);
+}
+
+#[test]
+fn the_header_and_refusal_number_alike() {
+    let header = bare_c(include_str!("../../include/lintelkite.h"));
+    for (number, name) in harness::refusal::NAMES.iter().enumerate() {
+        let entry = format!("LK_{name} = {number}");
+        let stands = header.split([',', '{', '}']).any(|piece| piece.trim() == entry);
+        assert!(stands, "{entry}");
+    }
+}

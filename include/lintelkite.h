@@ -1,0 +1,55 @@
+/* lintelkite.h: the C boundary of Lintelkite.
+ *
+ * This file fixes names, parameters and buffer lengths. What each call answers is in docs/PROMISES.md.
+ *
+ * Every call returns a refusal number, or 0 when it is accepted. Where several refusals hold, the smallest number is
+ * given. A call can give only those that speak of its inputs.
+ * Every buffer is a pointer and a length in bytes. The length is exact: neither shorter nor longer than stated here.
+ * Numbers inside a buffer are little-endian: a float is IEEE 754 binary32, a count or an id is 32 bits. No alignment
+ * is asked for. A buffer of no bytes may have any pointer, NULL too. A buffer that is written must not overlap
+ * another one.
+ * A call that refuses leaves every byte of every buffer as it was. No call keeps a pointer, allocates or has a
+ * state of its own, so calls from several threads on buffers of their own are fine.
+ * A NaN that a call works out is written as the pattern 0x7FC00000. Factors are copied bit for bit.
+ *
+ * Names of lengths below: W(bits, dims) = ceil(dims * bits / 8).
+ */
+#ifndef LINTELKITE_H
+#define LINTELKITE_H
+#include <stddef.h>
+#include <stdint.h>
+#ifdef __cplusplus
+extern "C" {
+#endif
+
+enum lk_refusal {
+    LK_ACCEPTED = 0,
+    LK_BAD_DIMS = 1,     /* dims is 0 or above the limit: 65,535 for digits and the scalar quantizer, else 4,369 */
+    LK_BAD_WIDTH = 2,    /* bits is not 1, 2, 4 or 8 */
+    LK_BAD_LENGTH = 3,   /* a buffer is not of the length stated here */
+    LK_MISSING = 4,      /* a NaN or an infinity where a finite number is asked for */
+    LK_BAD_VALUE = 5,    /* a code above the top, or another value that its kind does not have */
+    LK_OUT_OF_RANGE = 6, /* an index or a range past the end */
+    LK_NO_ROOM = 7,      /* more ids than places for them */
+    LK_NO_ESTIMATE = 8,  /* the number asked for is a NaN */
+    LK_NOT_ASKED = 9     /* a distance for a place that is not asked for now */
+};
+enum lk_metric { LK_L2 = 1, LK_DOT = 2 };
+enum lk_layout { LK_SINGLE = 1, LK_BLOCKS = 2 };
+enum lk_mark { LK_WAITING = 0, LK_ASKED = 1, LK_GIVEN = 2 };
+enum lk_answer { LK_DONE = 0, LK_ASK = 1, LK_GIVE = 2 };
+
+/* ---- sizes, for whoever makes the buffers: a 32-bit number in out (4 bytes) */
+uint32_t lk_digits_size(uint32_t dims, uint32_t bits, uint8_t *out, size_t out_len);         /* W(bits, dims) */
+
+/* ---- module 1, digits. codes: dims bytes, one code each. packed: W(bits, dims) */
+uint32_t lk_digits_pack(uint32_t dims, uint32_t bits, const uint8_t *codes, size_t codes_len,
+                        uint8_t *packed, size_t packed_len);
+/* the code at index, as a 32-bit number in out (4 bytes) */
+uint32_t lk_digits_read(uint32_t dims, uint32_t bits, const uint8_t *packed, size_t packed_len,
+                        uint32_t index, uint8_t *out, size_t out_len);
+
+#ifdef __cplusplus
+}
+#endif
+#endif

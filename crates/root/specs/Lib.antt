@@ -1,0 +1,3 @@
+pub mod Isqrt
+pub mod Root
+pub mod Parts

@@ -1,13 +1,13 @@
 -- The tests that `square_root` makes, one after the other, and what each leaves: a NaN, a number below 0, the infinity, a zero,
 -- and then a positive number. Assumes nothing.
 use mathlib.Core.Path.{_≡_, refl, sym, ap, _∙_, subst}
-use mathlib.Core.Bool.{Bool, true, false, not, cond, true≢false}
+use mathlib.Core.Bool.{Bool, true, false, cond, true≢false}
 use Prim.Native.Nat.{ℕ, zero, suc, _+_, _-_, _*_, _/_, _%_, _^_, _≤_, _<_}
 use native.Mathlib.Nat.{lt-of-not-le, zero-lt-suc, mul-pos, zero-mul, zero-div}
 use native.Mathlib.Omega.{arith}
 use lib.IntN.{ℤ}
 use lib.Dec.{T, leb, eqb, lt→ltb}
-use lib.Ieee.{Float, nan, inf, fin, binary32, up, down, odd, ofFields, ofBits, toBits, fits, isNan, ne, lt, size}
+use lib.Ieee.{Float, nan, inf, fin, binary32, up, down, odd, ofFields, ofBits, toBits, fits, ne, lt, size}
 use lib.Ieee.Fits.{up-pos}
 use lib.Ieee.Bits.{ofBits-toBits, toBits-lt}
 use lib.Ieee.Compare.{differs-from-itself}
@@ -21,12 +21,6 @@ use Rattle.root.specs.declared.Root.the-variants.{Is, Missing}
 pub root-of-nan : (x : Float) → ne x x ≡ true → Missing ≡ rootOf x
 unfolding rootOf
 root-of-nan x h = sym (ap rootOf (differs-from-itself x (subst T (sym h) tt)))
-
-pub is-number : (x : Float) → ne x x ≡ false → T (not (isNan x))
-unfolding isNan ne
-is-number nan h = absurd (true≢false h)
-is-number (inf s) h = tt
-is-number (fin s m e) h = tt
 
 -- ---- x < 0.0
 

@@ -5,3 +5,4 @@ pub mod PatternLaws
 pub mod CaseLaws
 pub mod NearestLaws
 pub mod RowLaws
+pub mod AnswerLaws

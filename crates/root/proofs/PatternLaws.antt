@@ -1,19 +1,19 @@
 -- The bit patterns of the positive numbers of binary32: what number each stands for, which pattern q * 2 ^ k smallest values
 -- have, and so the pattern of a root. Assumes nothing.
 use mathlib.Core.Path.{_≡_, refl, sym, ap, _∙_, subst}
-use mathlib.Core.Bool.{Bool, true, false, not, cond}
+use mathlib.Core.Bool.{Bool, true, false, cond}
 use Prim.Native.Nat.{ℕ, zero, suc, _+_, _-_, _*_, _/_, _%_, _^_, _≤_, _<_}
 use native.Mathlib.Nat.{le-trans, le-of-lt, lt-of-lt-of-le, lt-of-le-of-lt, le-of-suc-le-suc, mod-eq-of-lt, div-eq-of-lt}
 use native.Mathlib.Nat.{mul-div-cancel, mul-le-mul-right, mul-one, mul-pos, mul-assoc, mul-right-comm, zero-add}
 use native.Mathlib.Omega.{arith}
 use lib.Dec.{T, ltb, lit<}
 use lib.Pow.{pow-add, pow-pos, pow-mono, shl-lt}
-use lib.Ieee.{Float, nan, inf, fin, binary32, up, down, size, odd, units, ofFields, ofBits, toBits, nanBits, fits}
+use lib.Ieee.{Float, nan, inf, fin, binary32, up, down, size, odd, units, ofFields, ofBits, toBits, fits}
 use lib.Ieee.Fits.{odd-fits, down-pos}
-use lib.Ieee.Bits.{ofBits-toBits, nanBits-above}
+use lib.Ieee.Bits.{ofBits-toBits}
 use lib.Ieee.Exact.{HasValue, odd-sign, units-val}
 use lib.Ieee.Positive.{num, den, positive, den-pos, value→cross, positive-of-value}
-use borrow.Author.Tests.{ltb-true, ltb-false, lt-ltb, le-ltb, lt-leb, ne-eqb}
+use borrow.Author.Tests.{ltb-true, ltb-false, lt-ltb, lt-leb, ne-eqb}
 use Rattle.root.specs.Root.{rootOf, roundRoot}
 use Rattle.root.specs.Parts.{unitsOf}
 use Rattle.root.specs.declared.Root.the-variants.{Is}
@@ -105,13 +105,6 @@ units-pattern q k l u h =
     let fine : q * 2 ^ k < 2 ^ 277 = lt-of-lt-of-le (shl-lt 25 k (lt-of-le-of-lt u (lit< tt))) (pow-mono {i = 25 + k} {j = 277} (omega arith)) in
     ap (ofBits binary32) (sym (bits-of v (q * 2 ^ k) (units-val binary32 false q k fine) ∙ pattern-at q k l u))
     ∙ ofBits-toBits binary32 v (units-fits q k u fine)
-
--- a pattern below the infinity's is no NaN's
-pub no-nan : (r : ℕ) → r < 0x7F80_0000 → T (not (nanBits binary32 r))
-no-nan r h =
-    let m : r % 0x8000_0000 ≡ r = mod-eq-of-lt (omega arith) in
-    let e : nanBits binary32 r ≡ false = nanBits-above binary32 r ∙ ap (ltb 0x7F80_0000) m ∙ le-ltb 0x7F80_0000 r (omega arith) in
-    rw e tt
 
 -- ---- the root of a positive number, by its pattern
 

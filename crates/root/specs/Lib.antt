@@ -1,3 +1,4 @@
 pub mod Isqrt
 pub mod Root
 pub mod Parts
+pub mod Answers

@@ -32,9 +32,9 @@ rootOf (fin true (suc m) e) = Missing
 rootOf (fin false (suc m) e) = Is (roundRoot binary32 (suc m * up e) (down e))
 
 -- the paper's number of an answer: 4 is MISSING
-abbrev pub rootNumber : Root → ℕ
-rootNumber (Is v) = 0
-rootNumber Missing = 4
+abbrev pub numberOf : Root → ℕ
+numberOf (Is v) = 0
+numberOf Missing = 4
 
 -- the root, and v where there is none
 abbrev pub valueOr : Float → Root → Float

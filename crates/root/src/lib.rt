@@ -1,6 +1,7 @@
 // Module 3: the square root of an f32, IEEE 754-2019, correctly rounded, ties to even.
 ghost use mathlib.Core.Path.{_≡_};
 ghost use Rattle.root.specs.Root.{rootOf};
+ghost use Rattle.root.specs.Answers.{rootAnswer};
 
 mod pattern;
 
@@ -27,4 +28,20 @@ pub fn square_root(x: f32) -> Root
         return Root::Is(x);
     }
     Root::Is(f32::from_bits(pattern::root_bits(b)))
+}
+
+// The root of x as the four bytes of out.
+pub fn root_bytes(x: f32, out: &mut [u8]) -> u32
+    ensures { λ r. ⌜ (r, now (out .exit)) ≡ rootAnswer x (now (out .entry)) ⌝ }
+{
+    if out.len() != 4 {
+        return words::BAD_LENGTH;
+    }
+    match square_root(x) {
+        Root::Is(v) => {
+            words::put_float(out, v);
+            words::ACCEPTED
+        }
+        Root::Missing => words::MISSING,
+    }
 }

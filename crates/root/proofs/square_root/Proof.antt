@@ -6,8 +6,8 @@ use lib.Dec.{T}
 use lib.Ieee.{binary32, fits, toBits}
 use lib.Ieee.Bits.{ofBits-toBits}
 use Rattle.root.specs.Root.{rootOf}
-use Rattle.root.proofs.PatternLaws.{no-nan}
-use Rattle.root.proofs.CaseLaws.{root-of-nan, is-number, root-below, root-infinite, root-zero, in-range}
+use Rattle.words.proofs.FloatLaws.{no-nan-pattern, same-no-nan}
+use Rattle.root.proofs.CaseLaws.{root-of-nan, root-below, root-infinite, root-zero, in-range}
 use Rattle.root.proofs.square_root.Statement.{statement}
 use Rattle.root.proofs.square_root.Tie as tie
 
@@ -22,7 +22,7 @@ returns-2 : tie.Need-returns-2
 returns-2 c = root-below (c .before .before .args .x) (c .if2 .taken)
 
 float-to-bits-b : tie.Need-float-to-bits-b
-float-to-bits-b c = is-number (c .before .before .args .x) (c .before .if1 .left)
+float-to-bits-b c = same-no-nan (c .before .before .args .x) (c .before .if1 .left)
 
 returns-3 : tie.Need-returns-3
 returns-3 c = root-infinite (c .before .before .before .args .x) (held (c .before .before .before)) (c .if3 .taken)
@@ -37,7 +37,7 @@ root-bits-requires c κs =
     in-range (a .args .x) (held a) (c .before .before .before .if1 .left) (c .before .before .if2 .left) (c .before .if3 .left) zero
 
 float-from-bits-t5 : tie.Need-float-from-bits-t5
-float-from-bits-t5 c = no-nan (c .root-bits .result) (c .root-bits .ensures .0)
+float-from-bits-t5 c = no-nan-pattern (c .root-bits .result) (omega arith)
 
 returns-5 : tie.Need-returns-5
 returns-5 c =

@@ -4,5 +4,5 @@ pub mod RoundingLaws
 pub mod PatternLaws
 pub mod CaseLaws
 pub mod NearestLaws
-pub mod RowLaws
-pub mod AnswerLaws
+pub mod Rows
+pub mod CallLaws

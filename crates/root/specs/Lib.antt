@@ -1,4 +1,4 @@
 pub mod Isqrt
 pub mod Root
 pub mod Parts
-pub mod Answers
+pub mod Calls

@@ -1,7 +1,7 @@
 // Module 3: the square root of an f32, IEEE 754-2019, correctly rounded, ties to even.
 ghost use mathlib.Core.Path.{_≡_};
 ghost use Rattle.root.specs.Root.{rootOf};
-ghost use Rattle.root.specs.Answers.{rootAnswer};
+ghost use Rattle.root.specs.Calls.{rootAnswer};
 
 mod pattern;
 

@@ -1,9 +1,9 @@
--- `root::root_bytes` meets its contract: a law of AnswerLaws for each return. Assumes nothing.
+-- `root::root_bytes` meets its contract: a law of CallLaws for each return. Assumes nothing.
 use native.Mathlib.Omega.{arith}
 use mathlib.Core.Path.{sym, _∙_}
 use borrow.Author.Needs.{needs}
 use Rattle.words.proofs.RefusalLaws.{sized, unsized}
-use Rattle.root.proofs.AnswerLaws.{root-length, root-missing, root-accepted}
+use Rattle.root.proofs.CallLaws.{root-length, root-missing, root-accepted}
 use Rattle.root.proofs.root_bytes.Statement.{statement}
 use Rattle.root.proofs.root_bytes.Tie as tie
 

@@ -1,4 +1,4 @@
--- Laws of specs/Answers: one for each return of the call. Assumes nothing.
+-- Laws of specs/Calls: one for each return of the call. Assumes nothing.
 use mathlib.Core.Bool.{true, false}
 use mathlib.Core.List.{List}
 use mathlib.Core.Path.{_≡_, refl}
@@ -7,7 +7,7 @@ use lib.Ieee.{Float}
 use Rattle.words.specs.Bytes.{floatBytes}
 use Rattle.words.specs.Refusals.{after, answer, badLength}
 use Rattle.root.specs.Root.{rootOf}
-use Rattle.root.specs.Answers.{rootNumber, rootAnswer}
+use Rattle.root.specs.Calls.{rootNumber, rootAnswer}
 use Rattle.root.specs.declared.Root.the-variants.{Is, Missing}
 
 module _ (x : Float) (out : List ℕ) where

@@ -1,6 +1,7 @@
 // The C boundary of include/lintelkite.h, in the header's order. Each function forwards to its module's call and makes its promise.
 ghost use mathlib.Core.Path.{_≡_};
 ghost use Rattle.digits.specs.Calls as digits;
+ghost use Rattle.root.specs.Calls as root;
 
 // ---- sizes
 
@@ -31,4 +32,13 @@ pub extern "C" fn lk_digits_read(
     ensures { λ r. ⌜ (r, now (out .exit)) ≡ digits.readAnswer dims bits (now (packed .entry)) index (now (out .entry)) ⌝ }
 {
     digits::digits_read(dims, bits, packed, index, out)
+}
+
+// ---- module 3, square root
+
+#[no_mangle]
+pub extern "C" fn lk_root(x: f32, out: &mut [u8]) -> u32
+    ensures { λ r. ⌜ (r, now (out .exit)) ≡ root.rootAnswer x (now (out .entry)) ⌝ }
+{
+    root::root_bytes(x, out)
 }

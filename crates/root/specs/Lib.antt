@@ -1,0 +1,4 @@
+pub mod Isqrt
+pub mod Root
+pub mod Parts
+pub mod Calls

@@ -5,8 +5,14 @@ use mathlib.Core.List.{List}
 use lib.Dec.{ltb}
 use Rattle.words.specs.Limits.{mostDims}
 use Rattle.words.specs.Refusals.{answer, badDims, badLength}
+use Rattle.words.specs.Refusals as table
 use Rattle.code.specs.Code.{codeSize}
 use Rattle.block.specs.Block.{blockSize, packed, laneCode}
+
+-- ---- the size of a block: BAD_DIMS, BAD_LENGTH
+
+abbrev pub sizeAnswer : ℕ → List ℕ → ℕ × List ℕ
+sizeAnswer dims out = table.sizeAnswer dims (blockSize dims) out
 
 -- BAD_DIMS, BAD_LENGTH
 unfoldable pub packNumber : ℕ → List ℕ → List ℕ → ℕ

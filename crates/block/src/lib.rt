@@ -1,8 +1,6 @@
 // Module 5, the block of 32 codes: its public calls. The C functions of the crate lintelkite are these.
 ghost use mathlib.Core.Path.{_≡_};
-ghost use Rattle.words.specs.Refusals.{sizeAnswer};
-ghost use Rattle.block.specs.Block.{blockSize};
-ghost use Rattle.block.specs.Calls.{packAnswer, laneAnswer};
+ghost use Rattle.block.specs.Calls.{sizeAnswer, packAnswer, laneAnswer};
 use words::BAD_DIMS;
 use words::BAD_LENGTH;
 use words::MOST_DIMS;
@@ -14,7 +12,7 @@ pub mod parts;
 
 // The size of a block.
 pub fn block_size(dims: u32, out: &mut [u8]) -> u32
-    ensures { λ r. ⌜ (r, now (out .exit)) ≡ sizeAnswer dims (blockSize dims) (now (out .entry)) ⌝ }
+    ensures { λ r. ⌜ (r, now (out .exit)) ≡ sizeAnswer dims (now (out .entry)) ⌝ }
 {
     if bad_dims(dims, MOST_DIMS) {
         return BAD_DIMS;

@@ -8,7 +8,13 @@ use Rattle.words.specs.Bytes.{numAt, bytesOf}
 use Rattle.words.specs.Floats.{missing}
 use Rattle.words.specs.Limits.{mostDims}
 use Rattle.words.specs.Refusals.{answer, badDims, badLength}
+use Rattle.words.specs.Refusals as table
 use Rattle.code.specs.Code.{codeSize, codeBit, codeOf}
+
+-- ---- the size of a single code: BAD_DIMS, BAD_LENGTH
+
+abbrev pub sizeAnswer : ℕ → List ℕ → ℕ × List ℕ
+sizeAnswer dims out = table.sizeAnswer dims (codeSize dims) out
 
 -- ---- encode
 

@@ -1,8 +1,6 @@
 // Module 4, the single code: its public calls. The C functions of the crate lintelkite are these.
 ghost use mathlib.Core.Path.{_≡_};
-ghost use Rattle.words.specs.Refusals.{sizeAnswer};
-ghost use Rattle.code.specs.Code.{codeSize};
-ghost use Rattle.code.specs.Calls.{encodeAnswer, bitAnswer};
+ghost use Rattle.code.specs.Calls.{sizeAnswer, encodeAnswer, bitAnswer};
 use words::BAD_DIMS;
 use words::BAD_LENGTH;
 use words::MISSING;
@@ -16,7 +14,7 @@ pub mod parts;
 
 // The size of a single code.
 pub fn code_size(dims: u32, out: &mut [u8]) -> u32
-    ensures { λ r. ⌜ (r, now (out .exit)) ≡ sizeAnswer dims (codeSize dims) (now (out .entry)) ⌝ }
+    ensures { λ r. ⌜ (r, now (out .exit)) ≡ sizeAnswer dims (now (out .entry)) ⌝ }
 {
     if bad_dims(dims, MOST_DIMS) {
         return BAD_DIMS;

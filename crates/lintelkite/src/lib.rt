@@ -2,6 +2,8 @@
 ghost use mathlib.Core.Path.{_≡_};
 ghost use Rattle.digits.specs.Calls as digits;
 ghost use Rattle.root.specs.Calls as root;
+ghost use Rattle.code.specs.Calls as single;
+ghost use Rattle.block.specs.Calls as blocks;
 
 // ---- sizes
 
@@ -10,6 +12,20 @@ pub extern "C" fn lk_digits_size(dims: u32, bits: u32, out: &mut [u8]) -> u32
     ensures { λ r. ⌜ (r, now (out .exit)) ≡ digits.sizeAnswer dims bits (now (out .entry)) ⌝ }
 {
     digits::digits_size(dims, bits, out)
+}
+
+#[no_mangle]
+pub extern "C" fn lk_code_size(dims: u32, out: &mut [u8]) -> u32
+    ensures { λ r. ⌜ (r, now (out .exit)) ≡ single.sizeAnswer dims (now (out .entry)) ⌝ }
+{
+    code::code_size(dims, out)
+}
+
+#[no_mangle]
+pub extern "C" fn lk_block_size(dims: u32, out: &mut [u8]) -> u32
+    ensures { λ r. ⌜ (r, now (out .exit)) ≡ blocks.sizeAnswer dims (now (out .entry)) ⌝ }
+{
+    block::block_size(dims, out)
 }
 
 // ---- module 1, digits
@@ -41,4 +57,34 @@ pub extern "C" fn lk_root(x: f32, out: &mut [u8]) -> u32
     ensures { λ r. ⌜ (r, now (out .exit)) ≡ root.rootAnswer x (now (out .entry)) ⌝ }
 {
     root::root_bytes(x, out)
+// ---- module 4, single code
+
+#[no_mangle]
+pub extern "C" fn lk_code_encode(dims: u32, factors: &[u8], vector: &[u8], code: &mut [u8]) -> u32
+    ensures { λ r. ⌜ (r, now (code .exit)) ≡ single.encodeAnswer dims (now (factors .entry)) (now (vector .entry)) (now (code .entry)) ⌝ }
+{
+    code::code_encode(dims, factors, vector, code)
+}
+
+#[no_mangle]
+pub extern "C" fn lk_code_bit(dims: u32, code: &[u8], index: u32, out: &mut [u8]) -> u32
+    ensures { λ r. ⌜ (r, now (out .exit)) ≡ single.bitAnswer dims (now (code .entry)) index (now (out .entry)) ⌝ }
+{
+    code::code_bit(dims, code, index, out)
+}
+
+// ---- module 5, block
+
+#[no_mangle]
+pub extern "C" fn lk_block_pack(dims: u32, codes: &[u8], block: &mut [u8]) -> u32
+    ensures { λ r. ⌜ (r, now (block .exit)) ≡ blocks.packAnswer dims (now (codes .entry)) (now (block .entry)) ⌝ }
+{
+    block::block_pack(dims, codes, block)
+}
+
+#[no_mangle]
+pub extern "C" fn lk_block_lane(dims: u32, block: &[u8], lane: u32, code: &mut [u8]) -> u32
+    ensures { λ r. ⌜ (r, now (code .exit)) ≡ blocks.laneAnswer dims (now (block .entry)) lane (now (code .entry)) ⌝ }
+{
+    block::block_lane(dims, block, lane, code)
 }

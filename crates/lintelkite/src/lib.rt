@@ -57,6 +57,8 @@ pub extern "C" fn lk_root(x: f32, out: &mut [u8]) -> u32
     ensures { λ r. ⌜ (r, now (out .exit)) ≡ root.rootAnswer x (now (out .entry)) ⌝ }
 {
     root::root_bytes(x, out)
+}
+
 // ---- module 4, single code
 
 #[no_mangle]

@@ -1,2 +1,3 @@
 pub mod RoundLaws
 pub mod ScalarLaws
+pub mod CallLaws

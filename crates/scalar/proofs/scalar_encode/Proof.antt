@@ -1,101 +1,130 @@
+-- `scalar::scalar_encode` meets its contract: a law of CallLaws for each return, from what the tests before it tell. Assumes nothing.
+use Prim.Native.Nat.{_≤_}
+use mathlib.Core.Bool.{true, false, _||_}
+use mathlib.Core.Path.{_≡_, refl, sym, ap, _∙_}
+use native.Mathlib.Nat.{le-of-eq}
+use native.Mathlib.Omega.{arith}
+use Rattle.words.specs.Limits.{mostScalarDims}
+use Rattle.words.specs.Refusals.{badDims, badLength}
+use Rattle.words.proofs.RefusalLaws.{few-dims, sized, unsized, first-bad, second-bad, none-bad}
+use Rattle.digits.specs.Digits.{bitsOf, isWidth, packedSize}
+use Rattle.scalar.specs.Calls.{badVectors, anyMissing, Fine}
+use Rattle.scalar.proofs.ScalarLaws.{fine}
+use Rattle.scalar.proofs.CallLaws.{Shaped, encode-dims, encode-width, encode-length, encode-missing, encode-value, encode-accepted}
+use borrow.Author.Needs.{needs}
 use Rattle.scalar.proofs.scalar_encode.Statement.{statement}
 use Rattle.scalar.proofs.scalar_encode.Tie as tie
-use Rattle.scalar.proofs.scalar_encode.Reads as reads
-use Rattle.scalar.proofs.scalar_encode.Lts as lts
-use Rattle.digits.proofs.Width.of_bits.Reads as of-bits-reads
-use Rattle.digits.proofs.parts.packed_size.Reads as packed-size-reads
-use Rattle.scalar.proofs.code.encode.Reads as encode-reads
-use Rattle.scalar.proofs.tests.above_max.Reads as above-max-reads
-use Rattle.scalar.proofs.tests.any_missing.Reads as any-missing-reads
-use Rattle.scalar.proofs.tests.bad_vectors.Reads as bad-vectors-reads
-use Rattle.words.proofs.bad_dims.Reads as bad-dims-reads
 
--- src/lib.rt:23:8
+-- ---- what each test tells where it is passed
+
+abbrev start : tie.After-known-told → tie.Start
+start c = c .before .before .before .before .before .before .before .before .before .before
+
+width : (c : tie.After-known-told) → (isWidth (start c .args .bits) ≡ true) × (bitsOf (c .before .w .given .0 .0) ≡ start c .args .bits)
+width c = rw (c .before .w .given .1) at (c .before .before .before .of-bits .ensures)
+
+shaped : (c : tie.After-known-told) → Shaped (start c .args .dims) (start c .args .bits)
+shaped c =
+    let e = c .before .before .before .before in
+    record { dims-fine = sym (e .before .bad-dims .ensures) ∙ e .if1 .left; width-fine = width c .0 }
+
+few : (c : tie.After-known-told) → start c .args .dims ≤ mostScalarDims
+few c = few-dims mostScalarDims (start c .args .dims) (shaped c .dims-fine)
+
+vectors : (c : tie.Else2) → let a = start (c .before .before) .args in badVectors (a .dims) (a .vector .now) (a .min .now) (a .max .now) ≡ false
+vectors c = sym (c .before .bad-vectors .ensures) ∙ c .if2 .left
+
+size : (c : tie.After-packed-size) → let a = start (c .before .before .before) .args in c .packed-size .result ≡ packedSize (a .bits) (a .dims)
+size c = c .packed-size .ensures .0 ∙ rw (width (c .before .before .before) .1) refl
+
+lengths : (c : tie.Else3) → let a = start (c .before .before .before .before) .args in
+    (badVectors (a .dims) (a .vector .now) (a .min .now) (a .max .now) || badLength (a .code .now) (packedSize (a .bits) (a .dims))) ≡ false
+lengths c = none-bad _ _ (vectors (c .before .before)) (sized _ _ (c .if3 .left ∙ size (c .before)))
+
+there : (c : tie.Else4) → let a = start (c .before .before .before .before .before .before) .args in
+    anyMissing (a .dims) (a .vector .now) (a .min .now) (a .max .now) ≡ false
+there c = sym (c .before .any-missing .ensures) ∙ c .if4 .left
+
+all-fine : (c : tie.Else4) → let a = start (c .before .before .before .before .before .before) .args in
+    Fine (a .dims) (a .vector .now) (a .min .now) (a .max .now)
+all-fine c = fine _ _ _ _ (vectors (c .before .before .before .before)) (there c)
+
+-- ---- the needs
+
 bad-dims-requires : tie.Need-bad-dims-requires
-bad-dims-requires c κs = ?
+bad-dims-requires c κs = search needs
 
--- src/lib.rt:24:9
 returns : tie.Need-returns
-returns c = ?
+returns c = encode-dims _ _ _ _ _ _ (sym (c .before .bad-dims .ensures) ∙ c .if1 .taken)
 
--- src/lib.rt:26:27
 of-bits-requires : tie.Need-of-bits-requires
-of-bits-requires c κs = ?
+of-bits-requires c κs = search needs
 
--- src/lib.rt:26:22
 enum-known-w : tie.Need-enum-known-w
-enum-known-w c = ?
+enum-known-w c = search needs
 
--- src/lib.rt:27:9
 enum-told : tie.Need-enum-told
-enum-told c = ?
+enum-told c = search needs
 
--- src/lib.rt:27:9
 returns-2 : tie.Need-returns-2
-returns-2 c = ?
+returns-2 c =
+    let e = c .before .before .before in
+    encode-width _ _ _ _ _ _ (sym (e .before .bad-dims .ensures) ∙ e .if1 .left) (rw (c .enum-told .given .1) at (c .before .before .of-bits .ensures))
 
--- src/lib.rt:30:8
 bad-vectors-requires : tie.Need-bad-vectors-requires
-bad-vectors-requires c κs = ?
+bad-vectors-requires c κs = few c
 
--- src/lib.rt:31:9
 returns-3 : tie.Need-returns-3
-returns-3 c = ?
+returns-3 c = encode-length _ _ _ _ _ _ (shaped (c .before .before)) (first-bad _ _ (sym (c .before .bad-vectors .ensures) ∙ c .if2 .taken))
 
--- src/lib.rt:33:22
 packed-size-requires : tie.Need-packed-size-requires
-packed-size-requires c κs = ?
+packed-size-requires c κs = few (c .before .before)
 
--- src/lib.rt:34:9
 returns-4 : tie.Need-returns-4
-returns-4 c = ?
+returns-4 c =
+    let e = c .before .before in
+    let u = unsized _ _ (λ l. c .if3 .taken (l ∙ sym (size (c .before)))) in
+    encode-length _ _ _ _ _ _ (shaped (e .before .before)) (second-bad _ _ (vectors e) u)
 
--- src/lib.rt:36:8
 any-missing-requires : tie.Need-any-missing-requires
-any-missing-requires c κs = ?
+any-missing-requires c κs = (few (c .before .before .before .before), vectors (c .before .before))
 
--- src/lib.rt:37:9
 returns-5 : tie.Need-returns-5
-returns-5 c = ?
+returns-5 c =
+    let e = c .before .before in
+    encode-missing _ _ _ _ _ _ (shaped (e .before .before .before .before)) (lengths e) (sym (c .before .any-missing .ensures) ∙ c .if4 .taken)
 
--- src/lib.rt:39:8
 above-max-requires : tie.Need-above-max-requires
-above-max-requires c κs = ?
+above-max-requires c κs =
+    let f = all-fine c in
+    (few (c .before .before .before .before .before .before), le-of-eq (sym (f .lo-long)), le-of-eq (sym (f .hi-long)), f .lo-there, f .hi-there)
 
--- src/lib.rt:40:9
 returns-6 : tie.Need-returns-6
-returns-6 c = ?
+returns-6 c =
+    let e = c .before .before in
+    let l = e .before .before in
+    encode-value _ _ _ _ _ _ (shaped (l .before .before .before .before)) (lengths l) (there e) (sym (c .before .above-max .ensures) ∙ c .if5 .taken)
 
--- src/lib.rt:42:5
 encode-requires : tie.Need-encode-requires
-encode-requires c κs = ?
+encode-requires c κs =
+    let e = c .before .before .before in
+    let l = e .before .before in
+    (all-fine e, (few (l .before .before .before .before), l .if3 .left ∙ l .before .packed-size .ensures .0))
 
--- src/lib.rt:13:1
 same-length : tie.Need-same-length
-same-length c = ?
+same-length c = search needs
 
--- src/lib.rt:13:1
 returns-7 : tie.Need-returns-7
-returns-7 c = ?
+returns-7 c =
+    let f = c .before .before .before .before in
+    let e = f .before .before in
+    let l = e .before .before in
+    let k = l .before .before .before .before in
+    encode-accepted _ _ _ _ _ _ (shaped k) (lengths l) _ (there e) (sym (f .before .above-max .ensures) ∙ f .if5 .left)
+    (c .before .before .encode .ensures ∙ rw (width k .1) refl)
 
 pub scalar-encode-spec : {M : Type 1} → statement M
 scalar-encode-spec =
     tie.close
-    (tie.spec
-    bad-dims-requires
-    returns
-    of-bits-requires
-    enum-known-w
-    enum-told
-    returns-2
-    bad-vectors-requires
-    returns-3
-    packed-size-requires
-    returns-4
-    any-missing-requires
-    returns-5
-    above-max-requires
-    returns-6
-    encode-requires
-    same-length
-    returns-7)
+    (tie.spec bad-dims-requires returns of-bits-requires enum-known-w enum-told returns-2 bad-vectors-requires returns-3 packed-size-requires
+    returns-4 any-missing-requires returns-5 above-max-requires returns-6 encode-requires same-length returns-7)

@@ -3,7 +3,7 @@ use Prim.Native.Nat.{ℕ}
 use mathlib.Core.Bool.{true, false, _||_}
 use mathlib.Core.List.{List}
 use mathlib.Core.Path.{_≡_, refl}
-use lib.Ieee.{Float, isNan}
+use lib.Ieee.{isNan}
 use Rattle.words.specs.Bytes.{floatBytes}
 use Rattle.words.specs.Limits.{mostScalarDims}
 use Rattle.words.specs.Metrics.{metricOf}

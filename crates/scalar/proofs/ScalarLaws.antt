@@ -21,13 +21,12 @@ use Rattle.words.specs.Floats.{missing}
 use Rattle.words.specs.Limits.{mostScalarDims}
 use Rattle.words.specs.Lists.{joined}
 use Rattle.words.specs.Refusals.{badLength}
-use Rattle.words.specs.declared.Metric.{Metric}
 use Rattle.words.proofs.ByteLaws.{length-floatBytes, sets-append}
 use Rattle.words.proofs.DigitLaws.{join-ext}
 use Rattle.words.proofs.FloatLaws.{same-no-nan}
 use Rattle.words.proofs.ListLaws.{length-tabulate, tabulate-at, joined-more, length-joined, filled}
 use Rattle.words.proofs.RefusalLaws.{neither}
-use Rattle.digits.specs.Digits.{isWidth, levels, top, perByte, packedSize, packedByte, packed, digitAt}
+use Rattle.digits.specs.Digits.{isWidth, levels, top, perByte, packedSize, packedByte, packed}
 use Rattle.digits.proofs.DigitLaws.{by-width, digit-from, full-byte, last-byte}
 use Rattle.scalar.specs.Code.{quotient, codeAt, codesOf, scalarCode}
 use Rattle.scalar.specs.Table.{rowBytes, addedTo, termAt}

@@ -49,16 +49,17 @@ fn add_terms(
     sum
 }
 
-// The table entries at the code's digits, added from the left.
-fn sum_bits(bits: usize, n: u32, dims: usize, table: &[u8], code: &[u8]) -> f32
-    requires { ⌜ (isWidth bits ≡ true) × (n ≡ levels bits) × (dims ≤ mostScalarDims) × (length (now table) ≡ tableSize bits dims) × (length (now code) ≡ packedSize bits dims) ⌝ }
+// The table entries at the code's digits, added from the left. The group of eight is a parameter, so that LLVM unrolls it where
+// the width is known and not before.
+fn sum_bits(bits: usize, n: u32, group: usize, dims: usize, table: &[u8], code: &[u8]) -> f32
+    requires { ⌜ (group ≡ 8) × (isWidth bits ≡ true) × (n ≡ levels bits) × (dims ≤ mostScalarDims) × (length (now table) ≡ tableSize bits dims) × (length (now code) ≡ packedSize bits dims) ⌝ }
     ensures { λ r. ⌜ r ≡ sumOf bits dims (now (table .entry)) (now (code .entry)) ⌝ }
 {
     let mut s: f32 = 0.0;
     let mut at = 0usize;
-    while at + 8 <= dims {
-        s = add_terms(bits, n, dims, at, 8, s, table, code);
-        at += 8;
+    while at + group <= dims {
+        s = add_terms(bits, n, dims, at, group, s, table, code);
+        at += group;
     }
     add_terms(bits, n, dims, at, dims - at, s, table, code)
 }
@@ -68,10 +69,10 @@ pub fn sum(w: Width, dims: usize, table: &[u8], code: &[u8]) -> f32
     ensures { λ r. ⌜ r ≡ sumOf (bitsOf w) dims (now (table .entry)) (now (code .entry)) ⌝ }
 {
     match w {
-        Width::One => sum_bits(1, Width::LEVELS_1, dims, table, code),
-        Width::Two => sum_bits(2, Width::LEVELS_2, dims, table, code),
-        Width::Four => sum_bits(4, Width::LEVELS_4, dims, table, code),
-        Width::Eight => sum_bits(8, Width::LEVELS_8, dims, table, code),
+        Width::One => sum_bits(1, Width::LEVELS_1, 8, dims, table, code),
+        Width::Two => sum_bits(2, Width::LEVELS_2, 8, dims, table, code),
+        Width::Four => sum_bits(4, Width::LEVELS_4, 8, dims, table, code),
+        Width::Eight => sum_bits(8, Width::LEVELS_8, 8, dims, table, code),
     }
 }
 

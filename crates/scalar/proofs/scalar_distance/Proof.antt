@@ -4,7 +4,7 @@ use mathlib.Core.Bool.{true, false, _||_}
 use mathlib.Core.Path.{_≡_, refl, sym, ap, _∙_}
 use lib.Ieee.{isNan}
 use Rattle.words.specs.Limits.{mostScalarDims}
-use Rattle.words.specs.Refusals.{badDims, badLength, badForm}
+use Rattle.words.specs.Refusals.{badLength, badForm}
 use Rattle.words.proofs.RefusalLaws.{few-dims, sized, unsized, first-bad, second-bad, none-bad}
 use Rattle.digits.specs.Digits.{bitsOf, isWidth, packedSize}
 use Rattle.scalar.specs.Table.{tableSize, sumOf}

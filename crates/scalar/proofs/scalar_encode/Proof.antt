@@ -1,11 +1,10 @@
 -- `scalar::scalar_encode` meets its contract: a law of CallLaws for each return, from what the tests before it tell. Assumes nothing.
 use Prim.Native.Nat.{_≤_}
 use mathlib.Core.Bool.{true, false, _||_}
-use mathlib.Core.Path.{_≡_, refl, sym, ap, _∙_}
+use mathlib.Core.Path.{_≡_, refl, sym, _∙_}
 use native.Mathlib.Nat.{le-of-eq}
-use native.Mathlib.Omega.{arith}
 use Rattle.words.specs.Limits.{mostScalarDims}
-use Rattle.words.specs.Refusals.{badDims, badLength}
+use Rattle.words.specs.Refusals.{badLength}
 use Rattle.words.proofs.RefusalLaws.{few-dims, sized, unsized, first-bad, second-bad, none-bad}
 use Rattle.digits.specs.Digits.{bitsOf, isWidth, packedSize}
 use Rattle.scalar.specs.Calls.{badVectors, anyMissing, Fine}

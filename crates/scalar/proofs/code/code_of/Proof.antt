@@ -1,6 +1,6 @@
 -- `scalar::code::code_of` meets its contract: adding an even whole number from 2 ^ 23 on rounds as the definition does.
 -- Assumes nothing.
-use mathlib.Core.Path.{_≡_, refl, ap}
+use mathlib.Core.Path.{refl}
 use native.Mathlib.Omega.{arith}
 use Rattle.words.proofs.FloatLaws.{no-nan-pattern}
 use Rattle.scalar.proofs.RoundLaws.{code-le, sum-number, sum-from, sum-code}

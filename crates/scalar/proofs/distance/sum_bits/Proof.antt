@@ -4,18 +4,18 @@ use mathlib.Core.Bool.{false}
 use mathlib.Core.Path.{_≡_, refl, _∙_}
 use native.Mathlib.Omega.{arith}
 use lib.IntN.{pos}
-use lib.Ieee.{Float, fin}
+use lib.Ieee.{fin}
 use Rattle.scalar.specs.Table.{addedTo, termAt, sumOf}
 use Rattle.scalar.proofs.ScalarLaws.{from-zero, added-on}
 use Rattle.scalar.proofs.distance.sum_bits.Statement.{statement}
 use Rattle.scalar.proofs.distance.sum_bits.Tie as tie
 
 abbrev Inv-loop : tie.InvT-loop
-Inv-loop bits n dims table code s₀ at₀ s at =
+Inv-loop bits n group dims table code s₀ at₀ s at =
     (at ≤ dims) × (at % 8 ≡ 0) × (s ≡ addedTo (fin false 0 (pos 0)) at (termAt bits table code))
 
 abbrev μ-loop : tie.MeasureT-loop
-μ-loop bits n dims table code s₀ at₀ s at = dims - at
+μ-loop bits n group dims table code s₀ at₀ s at = dims - at
 
 loop-holds : tie.Need-loop-holds Inv-loop μ-loop
 loop-holds c = (omega arith, omega arith, from-zero _)
@@ -25,7 +25,7 @@ add-loop c = omega arith
 
 add-terms-requires : tie.Need-add-terms-requires Inv-loop μ-loop
 add-terms-requires c κs =
-    let p = c .before .before .before .before .pre in (p .0, p .1, p .2, p .3, p .4, c .before .loop .inv .1, c .loop-test .taken)
+    let p = c .before .before .before .before .pre in (p .1, p .2, p .3, p .4, p .5, c .before .loop .inv .1, c .loop-test .taken)
 
 add-at : tie.Need-add-at Inv-loop μ-loop
 add-at c = omega arith
@@ -38,14 +38,14 @@ loop-again c =
     let l = c .before .before .loop in
     let a = c .before .before .before .before .before .args in
     let f = termAt (a .bits) (a .table .now) (a .code .now) in
-    (omega arith, omega arith, c .add-terms .ensures ∙ rw (l .inv .2) (added-on (fin false 0 (pos 0)) (l .at) 8 f))
+    (omega arith, omega arith, c .add-terms .ensures ∙ rw (l .inv .2) (added-on (fin false 0 (pos 0)) (l .at) (a .group) f))
 
 sub-add-terms : tie.Need-sub-add-terms Inv-loop μ-loop
 sub-add-terms c = omega arith
 
 add-terms-requires-2 : tie.Need-add-terms-requires-2 Inv-loop μ-loop
 add-terms-requires-2 c κs =
-    let p = c .before .before .before .before .pre in (p .0, p .1, p .2, p .3, p .4, c .before .loop .inv .1, omega arith)
+    let p = c .before .before .before .before .pre in (p .1, p .2, p .3, p .4, p .5, c .before .loop .inv .1, omega arith)
 
 returns : tie.Need-returns Inv-loop μ-loop
 unfolding sumOf

@@ -4,6 +4,7 @@ ghost use Rattle.digits.specs.Calls as digits;
 ghost use Rattle.root.specs.Calls as root;
 ghost use Rattle.code.specs.Calls as single;
 ghost use Rattle.block.specs.Calls as blocks;
+ghost use Rattle.scalar.specs.Calls as scalar;
 
 // ---- sizes
 
@@ -48,6 +49,51 @@ pub extern "C" fn lk_digits_read(
     ensures { λ r. ⌜ (r, now (out .exit)) ≡ digits.readAnswer dims bits (now (packed .entry)) index (now (out .entry)) ⌝ }
 {
     digits::digits_read(dims, bits, packed, index, out)
+}
+
+// ---- module 2, scalar quantizer
+
+#[no_mangle]
+pub extern "C" fn lk_scalar_encode(
+    dims: u32,
+    bits: u32,
+    vector: &[u8],
+    min: &[u8],
+    max: &[u8],
+    code: &mut [u8],
+) -> u32
+    ensures { λ r. ⌜ (r, now (code .exit)) ≡ scalar.encodeAnswer dims bits (now (vector .entry)) (now (min .entry)) (now (max .entry)) (now (code .entry)) ⌝ }
+{
+    scalar::scalar_encode(dims, bits, vector, min, max, code)
+}
+
+#[no_mangle]
+pub extern "C" fn lk_scalar_table(
+    metric: u32,
+    dims: u32,
+    bits: u32,
+    vector: &[u8],
+    min: &[u8],
+    max: &[u8],
+    table: &mut [u8],
+) -> u32
+    ensures { λ r. ⌜ (r, now (table .exit)) ≡ scalar.tableAnswer metric dims bits (now (vector .entry)) (now (min .entry)) (now (max .entry)) (now (table .entry)) ⌝ }
+{
+    scalar::scalar_table(metric, dims, bits, vector, min, max, table)
+}
+
+#[no_mangle]
+pub extern "C" fn lk_scalar_distance(
+    metric: u32,
+    dims: u32,
+    bits: u32,
+    table: &[u8],
+    code: &[u8],
+    out: &mut [u8],
+) -> u32
+    ensures { λ r. ⌜ (r, now (out .exit)) ≡ scalar.distanceAnswer metric dims bits (now (table .entry)) (now (code .entry)) (now (out .entry)) ⌝ }
+{
+    scalar::scalar_distance(metric, dims, bits, table, code, out)
 }
 
 // ---- module 3, square root

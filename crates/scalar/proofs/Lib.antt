@@ -1,0 +1,5 @@
+pub mod RoundLaws
+pub mod ScalarLaws
+pub mod TableLaws
+pub mod CallLaws
+pub mod Rows

@@ -1,0 +1,177 @@
+-- Laws of specs/Code and specs/Table that the workers' proofs cite. Assumes nothing.
+use Prim.Native.Nat.{ℕ, zero, suc, _+_, _*_, _/_, _%_, _^_, _≤_, _<_}
+use mathlib.Core.Bool.{true, false, _||_}
+use mathlib.Core.List.{List}
+use mathlib.Core.Path.{_≡_, refl, sym, ap, _∙_, subst}
+use native.Mathlib.Omega.{arith}
+use native.Mathlib.Numerals.{add-one}
+use native.Mathlib.Nat.{mul-le-mul-right}
+use lib.Dec.{T, eqb}
+use lib.ListN.{length, getD}
+use lib.Seq.{sets}
+use lib.Pow.{pow-pos}
+use lib.IntN.{pos}
+use lib.Ieee.{Float, fin, add, ne, isNan, ofBits, binary32}
+use lib.Ieee.Bits.{is-false}
+use lib.Ieee.Compare.{differs-from-itself}
+use borrow.Author.Tests.{eqb-true, not-false}
+use Rattle.words.specs.Bytes.{f32At, floatBytes}
+use Rattle.words.specs.Digits.{join}
+use Rattle.words.specs.Floats.{missing}
+use Rattle.words.specs.Limits.{mostScalarDims}
+use Rattle.words.specs.Lists.{joined}
+use Rattle.words.specs.Refusals.{badLength}
+use Rattle.words.proofs.ByteLaws.{length-floatBytes, sets-append}
+use Rattle.words.proofs.DigitLaws.{join-ext}
+use Rattle.words.proofs.FloatLaws.{same-no-nan}
+use Rattle.words.proofs.ListLaws.{length-tabulate, tabulate-at, joined-more, length-joined, filled}
+use Rattle.words.proofs.RefusalLaws.{neither}
+use Rattle.digits.specs.Digits.{isWidth, levels, top, perByte, packedSize, packedByte, packed}
+use Rattle.digits.proofs.DigitLaws.{by-width, digit-from, full-byte, last-byte}
+use Rattle.scalar.specs.Code.{quotient, codeAt, codesOf, scalarCode}
+use Rattle.scalar.specs.Table.{rowBytes, addedTo, termAt}
+use Rattle.scalar.specs.Calls.{badVectors, anyMissing, Fine}
+use Rattle.scalar.proofs.RoundLaws.{code-le}
+
+-- ---- buffers that no test refuses
+
+right-length : (s : List ℕ) (n : ℕ) → badLength s n ≡ false → length s ≡ n
+unfolding badLength
+right-length s n h = eqb-true (length s) n (not-false (eqb (length s) n) h)
+
+pub long-vectors : (dims : ℕ) (v lo hi : List ℕ) → badVectors dims v lo hi ≡ false
+    → (length v ≡ 4 * dims) × (length lo ≡ 4 * dims) × (length hi ≡ 4 * dims)
+unfolding badVectors
+long-vectors dims v lo hi h =
+    let p = neither (badLength v (4 * dims) || badLength lo (4 * dims)) (badLength hi (4 * dims)) h in
+    let q = neither (badLength v (4 * dims)) (badLength lo (4 * dims)) (p .0) in
+    (right-length v (4 * dims) (q .0), right-length lo (4 * dims) (q .1), right-length hi (4 * dims) (p .1))
+
+pub fine : (dims : ℕ) (v lo hi : List ℕ) → badVectors dims v lo hi ≡ false → anyMissing dims v lo hi ≡ false → Fine dims v lo hi
+unfolding anyMissing
+fine dims v lo hi h k =
+    let l = long-vectors dims v lo hi h in
+    let p = neither (missing dims v || missing dims lo) (missing dims hi) k in
+    let q = neither (missing dims v) (missing dims lo) (p .0) in
+    record { vector-long = l .0; lo-long = l .1; hi-long = l .2; vector-there = q .0; lo-there = q .1; hi-there = p .1 }
+
+-- ---- codes
+
+pub code-small : (w t : ℕ) → t ≡ top w → (v lo hi : List ℕ) (i : ℕ) → codeAt t v lo hi i < 2 ^ w
+unfolding codeAt
+code-small w t e v lo hi i = omega (arith, code-le t (quotient t (f32At v i) (f32At lo i) (f32At hi i)), pow-pos w)
+
+module _ (w dims : ℕ) (v lo hi : List ℕ) where
+  pub count-codes : length (codesOf (top w) dims v lo hi) ≡ dims
+  unfolding codesOf
+  count-codes = length-tabulate dims (codeAt (top w) v lo hi)
+
+  listed : (at n : ℕ) → at + n ≤ dims
+      → join w n (λ j. codeAt (top w) v lo hi (at + j)) ≡ join w n (λ j. getD (codesOf (top w) dims v lo hi) (at + j) 0)
+  unfolding codesOf
+  listed at n h = join-ext w n _ _ (λ j l. sym (tabulate-at dims (codeAt (top w) v lo hi) (at + j) (omega arith)))
+
+  -- byte k of the code, whole and at the end
+  pub whole-codes : (k at per t : ℕ) → at ≡ k * perByte w → per ≡ perByte w → t ≡ top w → at + per ≤ dims
+      → join w per (λ j. codeAt t v lo hi (at + j)) ≡ packedByte w (codesOf (top w) dims v lo hi) k
+  whole-codes k at per t e f g h = rw g (listed at per h ∙ full-byte w k at per (codesOf (top w) dims v lo hi) e f)
+
+  pub last-codes : (k at n t : ℕ) → at ≡ k * perByte w → n ≤ perByte w → t ≡ top w → at + n ≡ dims
+      → join w n (λ j. codeAt t v lo hi (at + j)) ≡ packedByte w (codesOf (top w) dims v lo hi) k
+  last-codes k at n t e l g h = rw g (listed at n (omega arith) ∙ last-byte w k at n (codesOf (top w) dims v lo hi) e l (h ∙ sym count-codes))
+
+  pub scalar-filled : (s : List ℕ) → length s ≡ packedSize w dims
+      → ((k : ℕ) → k < packedSize w dims → getD s k 0 ≡ packedByte w (codesOf (top w) dims v lo hi) k) → s ≡ scalarCode w dims v lo hi
+  unfolding scalarCode packed
+  scalar-filled s e h = rw count-codes (filled (packedSize w dims) (packedByte w (codesOf (top w) dims v lo hi)) s e h)
+
+-- ---- rows
+
+pub length-row : (n : ℕ) (entry : ℕ → Float) → length (rowBytes n entry) ≡ n * 4
+unfolding rowBytes
+length-row n entry = length-joined 4 n (λ j. floatBytes (entry j)) (λ j l. length-floatBytes (entry j))
+
+pub levels-le : (w : ℕ) → isWidth w ≡ true → levels w ≤ 256
+levels-le w h = by-width (λ w. levels w ≤ 256) (omega arith) (omega arith) (omega arith) (omega arith) w h
+
+-- the loops that write pieces of m bytes one after the other
+pub piece-more : (m : ℕ) (g : ℕ → List ℕ) → ((i : ℕ) → length (g i) ≡ m) → (l : List ℕ) (at k p : ℕ) → p ≡ at + k * m
+    → sets (sets l at (joined k g)) p (g k) ≡ sets l at (joined (k + 1) g)
+piece-more m g h l at k p e =
+    let f : p ≡ at + length (joined k g) = e ∙ ap (λ (z : ℕ). at + z) (sym (length-joined m k g (λ i q. h i))) in
+    rw f (sets-append l at (joined k g) (g k)) ∙ ap (sets l at) (sym (joined-more k g))
+
+-- ---- sums
+
+pub from-zero : (f : ℕ → Float) → ofBits binary32 0 ≡ addedTo (fin false 0 (pos 0)) 0 f
+unfolding addedTo ofBits
+from-zero f = refl
+
+pub added-none : (s : Float) (f : ℕ → Float) → s ≡ addedTo s 0 f
+unfolding addedTo
+added-none s f = refl
+
+pub added-more : (s : Float) (n : ℕ) (f : ℕ → Float) → addedTo s (n + 1) f ≡ add binary32 (addedTo s n f) (f n)
+unfolding addedTo
+added-more s n f = ap (λ (k : ℕ). addedTo s k f) (add-one n)
+
+-- what is added to a sum goes on with it
+pub added-on : (s : Float) (k n : ℕ) (f : ℕ → Float) → addedTo (addedTo s k f) n (λ j. f (k + j)) ≡ addedTo s (k + n) f
+unfolding addedTo
+added-on s k zero f = ap (λ (z : ℕ). addedTo s z f) (sym (add-zero k))
+  where
+    add-zero : (k : ℕ) → k + 0 ≡ k
+    add-zero k = omega arith
+added-on s k (suc n) f = ap (λ (x : Float). add binary32 x (f (k + n))) (added-on s k n f) ∙ ap (λ (z : ℕ). addedTo s z f) (sym (add-suc k n))
+  where
+    add-suc : (k n : ℕ) → k + suc n ≡ suc (k + n)
+    add-suc k n = omega arith
+
+-- ---- the loop that adds the entries at the digits
+
+-- an entry of dimension i is within the table
+pub in-table : (i dims n c : ℕ) → i < dims → c < n → i * n + c < dims * n
+in-table i dims n c h l = omega (arith, mul-le-mul-right n h)
+
+-- digit j from dimension 8 * g, which begins a byte
+digit-byte : (w g j : ℕ) → isWidth w ≡ true → 8 * g * w / 8 + j * w / 8 ≡ (8 * g + j) * w / 8
+digit-byte w g j h = by-width (λ w. 8 * g * w / 8 + j * w / 8 ≡ (8 * g + j) * w / 8) (omega arith) (omega arith) (omega arith) (omega arith) w h
+
+digit-bit : (w g j : ℕ) → isWidth w ≡ true → j * w % 8 ≡ (8 * g + j) * w % 8
+digit-bit w g j h = by-width (λ w. j * w % 8 ≡ (8 * g + j) * w % 8) (omega arith) (omega arith) (omega arith) (omega arith) w h
+
+module _ (w at j : ℕ) (h : isWidth w ≡ true) (whole : at % 8 ≡ 0) where
+  eight : 8 * (at / 8) ≡ at
+  eight = omega arith
+
+  same-byte : at * w / 8 + j * w / 8 ≡ (at + j) * w / 8
+  same-byte = subst (λ (a : ℕ). a * w / 8 + j * w / 8 ≡ (a + j) * w / 8) eight (digit-byte w (at / 8) j h)
+
+  same-bit : j * w % 8 ≡ (at + j) * w % 8
+  same-bit = subst (λ (a : ℕ). j * w % 8 ≡ (a + j) * w % 8) eight (digit-bit w (at / 8) j h)
+
+  pub byte-within : (dims : ℕ) → at + j < dims → at * w / 8 + j * w / 8 < packedSize w dims
+  byte-within dims l =
+      rw same-byte
+      (by-width (λ w. (at + j) * w / 8 < packedSize w dims) (omega arith) (omega arith) (omega arith) (omega arith) w h)
+
+  pub term-is : (o row c n : ℕ) (table code : List ℕ) → o ≡ j * w → row ≡ (at + j) * levels w → n ≡ levels w
+      → c ≡ getD code (at * w / 8 + o / 8) 0 / 2 ^ (o % 8) % n → f32At table (row + c) ≡ termAt w table code (at + j)
+  unfolding termAt
+  term-is o row c n table code eo er en ec = rw (ec, er, en, eo, same-byte, same-bit, digit-from w code (at + j) h) refl
+
+-- what the loop counts fits
+pub bits-fit : (w i : ℕ) → isWidth w ≡ true → i ≤ mostScalarDims → i * w + w ≤ 0x8_0000
+bits-fit w i h l = by-width (λ w. i * w + w ≤ 0x8_0000) (omega arith) (omega arith) (omega arith) (omega arith) w h
+
+pub rows-fit : (w i : ℕ) → isWidth w ≡ true → i ≤ mostScalarDims → i * levels w + levels w ≤ 0x100_0000
+rows-fit w i h l = by-width (λ w. i * levels w + levels w ≤ 0x100_0000) (omega arith) (omega arith) (omega arith) (omega arith) w h
+
+-- ---- what a float's test against itself tells
+
+pub nan-itself : (x : Float) → ne x x ≡ true → isNan x ≡ true
+unfolding isNan
+nan-itself x e = rw (differs-from-itself x (subst T (sym e) tt)) refl
+
+pub not-nan-itself : (x : Float) → ne x x ≡ false → isNan x ≡ false
+not-nan-itself x e = is-false (isNan x) (same-no-nan x e)

@@ -1,0 +1,76 @@
+-- What the calls of module 2 answer: the smallest refusal that holds, or 0, and the bytes of the writable buffer after it.
+use Prim.Native.Nat.{ℕ, _*_}
+use mathlib.Core.Bool.{Bool, false, not, _||_, cond}
+use mathlib.Core.List.{List}
+use mathlib.Core.Path.{_≡_}
+use lib.ListN.{length}
+use lib.Ieee.{lt, isNan}
+use Rattle.words.specs.Bytes.{f32At, floatBytes}
+use Rattle.words.specs.Floats.{missing}
+use Rattle.words.specs.Lists.{anyBelow}
+use Rattle.words.specs.Limits.{mostScalarDims}
+use Rattle.words.specs.Metrics.{metricOf}
+use Rattle.words.specs.Refusals.{answer, badDims, badLength, badForm}
+use Rattle.digits.specs.Digits.{isWidth, packedSize}
+use Rattle.scalar.specs.Code.{scalarCode}
+use Rattle.scalar.specs.Table.{tableBytes, tableSize, sumOf, distanceOf}
+
+-- vector length, min length and max length equal dims
+unfoldable pub badVectors : ℕ → List ℕ → List ℕ → List ℕ → Bool
+badVectors dims vector lo hi = badLength vector (4 * dims) || badLength lo (4 * dims) || badLength hi (4 * dims)
+
+-- a NaN or infinity in a vector, min or max
+unfoldable pub anyMissing : ℕ → List ℕ → List ℕ → List ℕ → Bool
+anyMissing dims vector lo hi = missing dims vector || missing dims lo || missing dims hi
+
+-- min above max
+unfoldable pub aboveMax : ℕ → List ℕ → List ℕ → Bool
+unfolding anyBelow
+aboveMax dims lo hi = anyBelow dims (λ i. lt (f32At hi i) (f32At lo i))
+
+-- what the workers are called with: buffers of the right lengths, and nothing missing in them
+pub record Fine (dims : ℕ) (vector lo hi : List ℕ) : Type 0 where
+  pub vector-long : length vector ≡ 4 * dims
+  pub lo-long : length lo ≡ 4 * dims
+  pub hi-long : length hi ≡ 4 * dims
+  pub vector-there : missing dims vector ≡ false
+  pub lo-there : missing dims lo ≡ false
+  pub hi-there : missing dims hi ≡ false
+
+unfoldable pub encodeNumber : ℕ → ℕ → List ℕ → List ℕ → List ℕ → List ℕ → ℕ
+encodeNumber dims bits vector lo hi out =
+    cond (badDims mostScalarDims dims) 1
+    (cond (not (isWidth bits)) 2
+    (cond (badVectors dims vector lo hi || badLength out (packedSize bits dims)) 3
+    (cond (anyMissing dims vector lo hi) 4
+    (cond (aboveMax dims lo hi) 5 0))))
+
+unfoldable pub encodeAnswer : ℕ → ℕ → List ℕ → List ℕ → List ℕ → List ℕ → ℕ × List ℕ
+encodeAnswer dims bits vector lo hi out =
+    answer (encodeNumber dims bits vector lo hi out) out (scalarCode bits dims vector lo hi)
+
+unfoldable pub tableNumber : ℕ → ℕ → ℕ → List ℕ → List ℕ → List ℕ → List ℕ → ℕ
+tableNumber metric dims bits vector lo hi out =
+    cond (badDims mostScalarDims dims) 1
+    (cond (not (isWidth bits)) 2
+    (cond (badVectors dims vector lo hi || badLength out (tableSize bits dims)) 3
+    (cond (anyMissing dims vector lo hi) 4
+    (cond (aboveMax dims lo hi || badForm metric) 5 0))))
+
+unfoldable pub tableAnswer : ℕ → ℕ → ℕ → List ℕ → List ℕ → List ℕ → List ℕ → ℕ × List ℕ
+tableAnswer metric dims bits vector lo hi out =
+    answer (tableNumber metric dims bits vector lo hi out) out (tableBytes (metricOf metric) bits dims vector lo hi)
+
+-- the table may hold any bits: a NaN sum is NO_ESTIMATE
+unfoldable pub distanceNumber : ℕ → ℕ → ℕ → List ℕ → List ℕ → List ℕ → ℕ
+distanceNumber metric dims bits table code out =
+    cond (badDims mostScalarDims dims) 1
+    (cond (not (isWidth bits)) 2
+    (cond (badLength table (tableSize bits dims) || badLength code (packedSize bits dims) || badLength out 4) 3
+    (cond (badForm metric) 5
+    (cond (isNan (sumOf bits dims table code)) 8 0))))
+
+unfoldable pub distanceAnswer : ℕ → ℕ → ℕ → List ℕ → List ℕ → List ℕ → ℕ × List ℕ
+distanceAnswer metric dims bits table code out =
+    answer (distanceNumber metric dims bits table code out) out
+    (floatBytes (distanceOf (metricOf metric) (sumOf bits dims table code)))

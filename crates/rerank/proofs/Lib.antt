@@ -9,4 +9,5 @@ pub mod ChoiceLaws
 pub mod StateLaws
 pub mod CallLaws
 pub mod ExampleLaws
+pub mod ByteRunLaws
 pub mod DemandLaws

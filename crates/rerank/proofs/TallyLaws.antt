@@ -13,7 +13,7 @@ use lib.Ieee.{Float}
 use Rattle.words.specs.Sums.{sumTo}
 use Rattle.words.proofs.SumLaws.{sum-ext, sum-const}
 use Rattle.rerank.specs.Rerank.{State, put, answer, nextRefusal, supplyRefusal, given, supplied, oneOrTwo, counted, Event, asked, supply, gave, done, Accepted, then, ran, Run, tally, aSupply, aGive, supplyOf, giveOf, drive}
-use Rattle.rerank.specs.Demand.{Fresh, notWaiting}
+use Rattle.rerank.specs.Demand.{Fresh, notWaiting, Ends}
 use Rattle.rerank.specs.declared.Answer.{Answer}
 use Rattle.rerank.specs.declared.Answer.the-variants.{Ask, Give, Done}
 use Rattle.rerank.proofs.OrderLaws.{Num}
@@ -156,11 +156,6 @@ counted-is s c = sum-ext (s .size) (λ i. oneOrTwo (s .mark i)) (λ i. notZero (
 abbrev left : ℕ → ℕ
 left m = 2 - m
 
-pub record Finishes (s : State) (es : List Event) : Type 0 where
-  pub calls : List Event
-  pub ends : es ≡ calls ++ (done ∷ [])
-  pub accepted : Run s es
-
 run-supply : (s : State) (p : ℕ) (d : Float) (es : List Event) → nextRefusal s ≡ 0 → answer s ≡ Ask p → supplyRefusal s p d ≡ 0 → Run (supplied s p d) es
     → Run s (asked p ∷ supply p d ∷ es)
 unfolding Run Accepted then
@@ -182,7 +177,7 @@ accept-give : (s : State) (p : ℕ) (d : Float) → nextRefusal s ≡ 0 → answ
 unfolding Accepted then
 accept-give s p d a b = clean-then s (gave p d) (a, b)
 
-drives : (n : ℕ) (table : ℕ → Float) (s : State) → Clean s → ((q : ℕ) → q < s .size → Num (table q)) → total left s < n → Finishes s (drive n table s)
+drives : (n : ℕ) (table : ℕ → Float) (s : State) → Clean s → ((q : ℕ) → q < s .size → Num (table q)) → total left s < n → Ends s (drive n table s)
 unfolding drive
 drives zero table s c num h = absurd (omega arith)
 drives (suc n) table s c num h = go (λ t k e l. drives n table t k e l) (answer s) refl
@@ -194,7 +189,7 @@ drives (suc n) table s c num h = go (λ t k e l. drives n table t k e l) (answer
       | Done ↦ done ∷ []
     ]
 
-    go : ((t : State) → Clean t → ((q : ℕ) → q < t .size → Num (table q)) → total left t < n → Finishes t (drive n table t)) → (x : Answer) → answer s ≡ x → Finishes s (turn x)
+    go : ((t : State) → Clean t → ((q : ℕ) → q < t .size → Num (table q)) → total left t < n → Ends t (drive n table t)) → (x : Answer) → answer s ≡ x → Ends s (turn x)
     go again (Ask p) e =
         let d = table p in
         let m = means s c (Ask p) e in
@@ -203,17 +198,17 @@ drives (suc n) table s c num h = go (λ t k e l. drives n table t k e l) (answer
         let k = again (supplied s p d) (accept-supply s p d a) num (omega (arith, total-supplied left s p d (c, v, m))) in
         record {
           calls = asked p ∷ supply p d ∷ k .calls;
-          ends = ap {B = List Event} (λ l. asked p ∷ supply p d ∷ l) (k .ends);
+          last = ap {B = List Event} (λ l. asked p ∷ supply p d ∷ l) (k .last);
           accepted = run-supply s p d (drive n table (supplied s p d)) (clean-next s c) e a (k .accepted);
         }
     go again (Give p d) e =
         let k = again (given s p) (accept-give s p d (clean-next s c) e) num (omega (arith, total-given left s p d (c, means s c (Give p d) e))) in
         record {
           calls = gave p d ∷ k .calls;
-          ends = ap {B = List Event} (λ l. gave p d ∷ l) (k .ends);
+          last = ap {B = List Event} (λ l. gave p d ∷ l) (k .last);
           accepted = run-give s p d (drive n table (given s p)) (clean-next s c) e (k .accepted);
         }
-    go again Done e = record { calls = []; ends = refl; accepted = run-done s (clean-next s c) e }
+    go again Done e = record { calls = []; last = refl; accepted = run-done s (clean-next s c) e }
 
 pub fresh-clean : (s : State) → Fresh s → Clean s
 fresh-clean s f =
@@ -224,6 +219,6 @@ fresh-clean s f =
     }
 
 -- so from fresh marks 2 * n + 1 turns are enough for n candidates, with any numbers for distances
-pub comes-to-done : (s : State) (table : ℕ → Float) → Fresh s → ((q : ℕ) → q < s .size → Num (table q)) → Finishes s (drive (2 * s .size + 1) table s)
+pub comes-to-done : (s : State) (table : ℕ → Float) → Fresh s → ((q : ℕ) → q < s .size → Num (table q)) → Ends s (drive (2 * s .size + 1) table s)
 comes-to-done s table f num =
     drives (2 * s .size + 1) table s (fresh-clean s f) num (omega (arith, total-each left s 0 2 (f .waits) refl))

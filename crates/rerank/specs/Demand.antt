@@ -1,15 +1,13 @@
 -- Demand 3, stated over runs of accepted calls and over the bytes that the calls are lent. `DemandLaws` proves it.
 use mathlib.Core.Path.{_≡_}
-use mathlib.Core.Bool.{Bool, true, false, cond}
+use mathlib.Core.Bool.{true, false, cond}
 use mathlib.Core.List.{List, [], _∷_, _++_}
-use Prim.Native.Nat.{ℕ, zero, suc, _+_, _*_, _<_, _≤_}
+use Prim.Native.Nat.{ℕ, _+_, _*_, _^_, _<_}
 use lib.Dec.{eqb}
-use lib.ListN.{length, getD}
 use lib.Ieee.{Float, lt, isNan, ofBits, binary32}
 use Rattle.words.specs.Bytes.{numAt, f32At}
-use Rattle.words.specs.Limits.{mostPlaces}
 use Rattle.words.specs.Sums.{sumTo}
-use Rattle.rerank.specs.Rerank.{State, answer, supplyRefusal, Event, asked, supply, gave, done, ran, Run, tally, aSupply, aGive, supplyOf, giveOf}
+use Rattle.rerank.specs.Rerank.{State, answer, supplyRefusal, Event, asked, supply, gave, done, ran, Run, tally, aSupply, aGive, supplyOf, giveOf, drive}
 use Rattle.rerank.specs.Calls.{stateOf, nextAnswer, supplyAnswer}
 use Rattle.rerank.specs.declared.Answer.the-variants.{Ask}
 
@@ -63,6 +61,12 @@ pub record Demand3 (s : State) (es : List Event) : Type 0 where
   pub above : (fs gs : List Event) (p q : ℕ) (d : Float) → es ≡ fs ++ (gave p d ∷ gs) → q < s .size → lt d (s .estimate q) ≡ true
       → ran s fs .mark q ≡ 0
 
+-- a run to Done
+pub record Ends (s : State) (es : List Event) : Type 0 where
+  pub calls : List Event
+  pub last : es ≡ calls ++ (done ∷ [])
+  pub accepted : Run s es
+
 -- ---- the same over bytes
 
 -- the lists that the calls are lent, and that only they change
@@ -74,7 +78,7 @@ pub record Lists : Type 0 where
 -- one call, with what `out` holds before it. A float parameter is any bit pattern
 pub data Call : Type 0 where
   next : List ℕ → Call
-  supplying : ℕ → ℕ → List ℕ → Call
+  supplies : ℕ → ℕ → List ℕ → Call
 
 abbrev pub held : Lists → State
 held b = stateOf (b .estimates) (b .distances) (b .marks)
@@ -89,7 +93,7 @@ unfoldable pub call : Lists → Call → Answered
 call b (next out) =
     let r = nextAnswer (b .estimates) (b .distances) (b .marks) out in
     record { number = r .0; lists = record { estimates = b .estimates; distances = b .distances; marks = r .1 }; out = r .2 }
-call b (supplying place bits out) =
+call b (supplies place bits out) =
     let r = supplyAnswer (b .estimates) (b .distances) (b .marks) place (ofBits binary32 bits) out in
     record { number = r .0; lists = record { estimates = b .estimates; distances = r .1; marks = r .2 }; out = r .3 }
 
@@ -100,11 +104,11 @@ told out = cond (eqb (numAt 4 out 0) 1) (asked (numAt 4 out 4)) (cond (eqb (numA
 -- the event of a call, where it was accepted, and the count that it reported
 unfoldable pub seen : Call → Answered → List Event
 seen (next out) r = cond (eqb (r .number) 0) (told (r .out) ∷ []) []
-seen (supplying place bits out) r = cond (eqb (r .number) 0) (supply place (ofBits binary32 bits) ∷ []) []
+seen (supplies place bits out) r = cond (eqb (r .number) 0) (supply place (ofBits binary32 bits) ∷ []) []
 
 unfoldable pub reported : Call → Answered → ℕ
 reported (next out) r = numAt 4 (r .out) 12
-reported (supplying place bits out) r = numAt 4 (r .out) 0
+reported (supplies place bits out) r = numAt 4 (r .out) 0
 
 -- the lists after some calls, refused ones among them, and the events that they were heard to make
 unfoldable pub left : Lists → List Call → Lists
@@ -119,20 +123,19 @@ heard b (c ∷ cs) = seen c (call b c) ++ heard (call b c .lists) cs
 unfoldable pub notWaiting : State → ℕ
 notWaiting s = sumTo (s .size) (λ i. cond (eqb (s .mark i) 0) 0 1)
 
--- at most 4,096 candidates, in lists of the lengths that the calls ask for
-pub record Lent (b : Lists) : Type 0 where
-  pub most : length (b .marks) ≤ mostPlaces
-  pub estimates : length (b .estimates) ≡ 4 * length (b .marks)
-  pub distances : length (b .distances) ≡ 4 * length (b .marks)
-  pub fresh : Fresh (held b)
-
--- demand 3: cs is any sequence of calls on lent lists that only they change; es what was heard up to Done
+-- demand 3. b is any lent lists, cs any calls on them, and nothing else changes them; es is what was heard before Done. (Lists of other
+-- lengths, or of more than 4,096 places, are refused, and nothing is heard.)
 pub record Demand : Type 0 where
   -- the accepted calls are a run of the rule, and the bytes hold its states
-  pub runs : (b : Lists) (cs : List Call) → Lent b → Run (held b) (heard b cs) × (held (left b cs) ≡ ran (held b) (heard b cs))
+  pub runs : (b : Lists) (cs : List Call) → Run (held b) (heard b cs) × (held (left b cs) ≡ ran (held b) (heard b cs))
   -- the count that an accepted call reports is that of the candidates no longer waiting
-  pub counts : (b : Lists) (cs : List Call) (c : Call) → Lent b → call (left b cs) c .number ≡ 0
-      → reported c (call (left b cs) c) ≡ notWaiting (held (call (left b cs) c .lists))
-  pub finishes : (b : Lists) (cs : List Call) (es : List Event) → Lent b → heard b cs ≡ es ++ (done ∷ []) → Finished (held b) es
-  pub holds : (b : Lists) (cs : List Call) (es : List Event) → Lent b → heard b cs ≡ es ++ (done ∷ [])
-      → Lower (f32At (b .estimates)) es → Demand3 (held b) es
+  pub counts : (b : Lists) (c : Call) → call b c .number ≡ 0 → reported c (call b c) ≡ notWaiting (held (call b c .lists))
+  -- with or without the premise
+  pub finishes : (b : Lists) (cs : List Call) (es : List Event) → Fresh (held b) → heard b cs ≡ es ++ (done ∷ []) → Finished (held b) es
+  -- with it
+  pub holds : (b : Lists) (cs : List Call) (es : List Event) → Fresh (held b) → heard b cs ≡ es ++ (done ∷ []) → Lower (held b .estimate) es
+      → Demand3 (held b) es
+  -- a caller that supplies a number for whatever is asked for comes to Done, in at most 2 n + 1 turns
+  pub ends : (s : State) (table : ℕ → Float) → Fresh s → ((q : ℕ) → q < s .size → isNan (table q) ≡ false) → Ends s (drive (2 * s .size + 1) table s)
+  -- floats that are no NaN are equal only where their bits are: so what is handed out has the bits that were supplied
+  pub bits : (u v : ℕ) → u < 2 ^ 32 → v < 2 ^ 32 → isNan (ofBits binary32 u) ≡ false → ofBits binary32 u ≡ ofBits binary32 v → u ≡ v

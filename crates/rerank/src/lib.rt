@@ -337,7 +337,8 @@ fn put_answer(out: &mut [u8], a: Answer, count: u32)
 
 // The next answer, written to out. A Give marks its place as given; nothing else is changed.
 pub fn next(estimates: &[u8], distances: &[u8], marks: &mut [u8], out: &mut [u8]) -> u32
-    ensures { λ r. ⌜ (r, now (marks .exit), now (out .exit)) ≡ nextAnswer (now (estimates .entry)) (now (distances .entry)) (now (marks .entry)) (now (out .entry)) ⌝ }
+    ensures { λ r. ⌜ (r, now (marks .exit), now (out .exit))
+        ≡ nextAnswer (now (estimates .entry)) (now (distances .entry)) (now (marks .entry)) (now (out .entry)) ⌝ }
 {
     if bad_lists(estimates, distances, marks) {
         return words::BAD_LENGTH;
@@ -374,7 +375,8 @@ pub fn supply(
     distance: f32,
     out: &mut [u8],
 ) -> u32
-    ensures { λ r. ⌜ (r, now (distances .exit), now (marks .exit), now (out .exit)) ≡ supplyAnswer (now (estimates .entry)) (now (distances .entry)) (now (marks .entry)) place distance (now (out .entry)) ⌝ }
+    ensures { λ r. ⌜ (r, now (distances .exit), now (marks .exit), now (out .exit))
+        ≡ supplyAnswer (now (estimates .entry)) (now (distances .entry)) (now (marks .entry)) place distance (now (out .entry)) ⌝ }
 {
     if bad_lists(estimates, distances, marks) {
         return words::BAD_LENGTH;

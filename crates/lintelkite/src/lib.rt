@@ -5,6 +5,7 @@ ghost use Rattle.root.specs.Calls as root;
 ghost use Rattle.code.specs.Calls as single;
 ghost use Rattle.block.specs.Calls as blocks;
 ghost use Rattle.scalar.specs.Calls as scalar;
+ghost use Rattle.rerank.specs.Calls as rerank;
 
 // ---- sizes
 
@@ -135,4 +136,32 @@ pub extern "C" fn lk_block_lane(dims: u32, block: &[u8], lane: u32, code: &mut [
     ensures { λ r. ⌜ (r, now (code .exit)) ≡ blocks.laneAnswer dims (now (block .entry)) lane (now (code .entry)) ⌝ }
 {
     block::block_lane(dims, block, lane, code)
+// ---- module 9, reranker
+
+#[no_mangle]
+pub extern "C" fn lk_rerank_next(
+    estimates: &[u8],
+    distances: &[u8],
+    marks: &mut [u8],
+    out: &mut [u8],
+) -> u32
+    ensures { λ r. ⌜ (r, now (marks .exit), now (out .exit))
+        ≡ rerank.nextAnswer (now (estimates .entry)) (now (distances .entry)) (now (marks .entry)) (now (out .entry)) ⌝ }
+{
+    rerank::next(estimates, distances, marks, out)
+}
+
+#[no_mangle]
+pub extern "C" fn lk_rerank_supply(
+    estimates: &[u8],
+    distances: &mut [u8],
+    marks: &mut [u8],
+    place: u32,
+    distance: f32,
+    out: &mut [u8],
+) -> u32
+    ensures { λ r. ⌜ (r, now (distances .exit), now (marks .exit), now (out .exit))
+        ≡ rerank.supplyAnswer (now (estimates .entry)) (now (distances .entry)) (now (marks .entry)) place distance (now (out .entry)) ⌝ }
+{
+    rerank::supply(estimates, distances, marks, place, distance, out)
 }

@@ -1,0 +1,13 @@
+pub mod OrderLaws
+pub mod KeyLaws
+pub mod LeastLaws
+pub mod RuleLaws
+pub mod RunLaws
+pub mod TallyLaws
+pub mod ScanLaws
+pub mod ChoiceLaws
+pub mod StateLaws
+pub mod CallLaws
+pub mod ExampleLaws
+pub mod ByteRunLaws
+pub mod DemandLaws

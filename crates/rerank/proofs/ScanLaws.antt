@@ -1,0 +1,275 @@
+-- What the turns and the ends of the scan's loops say. Assumes nothing.
+use mathlib.Core.Path.{_≡_, refl, sym, subst, ap, _∙_}
+use mathlib.Core.Logic.{_⊎_, inl, inr}
+use mathlib.Core.Bool.{Bool, true, false, not, _&&_, _||_, cond}
+use mathlib.Core.List.{List}
+use Prim.Native.Nat.{ℕ, zero, suc, _+_, _-_, _*_, _/_, _%_, _<_, _≤_}
+use native.Mathlib.Decide.{decLt, ℕ-discrete}
+use native.Mathlib.Numerals.{add-one}
+use native.Mathlib.Omega.{arith}
+use borrow.Author.Tests.{ltb-true, ltb-false, lt-ltb, le-ltb, eqb-true, eqb-false, eq-eqb, ne-eqb, not-false}
+use lib.Dec.{eqb, leb, ltb}
+use lib.ListN.{length, getD}
+use lib.Ieee.{binary32, nanBits, isNan, ofBits}
+use lib.Ieee.Bits.{nanBits-above, nanBits-is}
+use Rattle.words.specs.Bytes.{numAt, f32At}
+use Rattle.words.specs.Limits.{mostPlaces}
+use Rattle.words.specs.Lists.{anyBelow}
+use Rattle.words.specs.Refusals.{badLength}
+use Rattle.words.specs.Sums.{sumTo}
+use Rattle.words.proofs.ListLaws.{any-none, any-more}
+use Rattle.words.proofs.RefusalLaws.{neither}
+use Rattle.words.proofs.SumLaws.{sum-more, sum-ext, sum-le}
+use Rattle.rerank.specs.Rerank.{State, missingAt, missing, badMark, nextRefusal}
+use Rattle.rerank.specs.Calls.{stateOf, badLists}
+use Rattle.rerank.specs.Scan.{keyOf, noKey, keyIf, lesser, keyAt, leastKey, lacks, lackAt, aboveTwo, notZero, KeysTo, CountsOf, WithBlock, ScanTo, FirstAt}
+use Rattle.rerank.specs.declared.Keys.{Keys}
+use Rattle.rerank.specs.declared.Counts.{Counts}
+use Rattle.rerank.specs.declared.Scan.{Scan}
+
+-- ---- lists of the right lengths
+pub record Sized (e d m : List ℕ) : Type 0 where
+  pub most : length m ≤ mostPlaces
+  pub estimates : length e ≡ 4 * length m
+  pub distances : length d ≡ 4 * length m
+
+length-of : (s : List ℕ) (n : ℕ) → badLength s n ≡ false → length s ≡ n
+unfolding badLength
+length-of s n e = eqb-true (length s) n (not-false (eqb (length s) n) e)
+
+pub sized-of : (e d m : List ℕ) → badLists e d m ≡ false → Sized e d m
+unfolding badLists
+sized-of e d m h =
+    let a = neither (ltb mostPlaces (length m) || badLength e (4 * length m)) (badLength d (4 * length m)) h in
+    let b = neither (ltb mostPlaces (length m)) (badLength e (4 * length m)) (a .0) in
+    record { most = ltb-false mostPlaces (length m) (b .0); estimates = length-of e (4 * length m) (b .1); distances = length-of d (4 * length m) (a .1) }
+
+-- ---- one place
+pub nan-test : (u : ℕ) → ltb 0x7F80_0000 (u - u / 0x8000_0000 * 0x8000_0000) ≡ nanBits binary32 u
+nan-test u =
+    let e : u - u / 0x8000_0000 * 0x8000_0000 ≡ u % 0x8000_0000 = omega arith in
+    rw e (sym (nanBits-above binary32 u))
+
+pub key-up : (u : ℕ) → u < 0x8000_0000 → u + 0x8000_0000 ≡ keyOf u
+unfolding keyOf
+key-up u h = rw (lt-ltb u 0x8000_0000 h) (omega arith)
+
+pub key-down : (u : ℕ) → 0x8000_0000 ≤ u → u < 0x1_0000_0000 → 0x8000_0000 - (u - 0x8000_0000) ≡ keyOf u
+unfolding keyOf
+key-down u h l = rw (le-ltb u 0x8000_0000 h) (omega arith)
+
+module _ (m e d : ℕ) (b : Bool) (h : b ≡ nanBits binary32 e) where
+  pub lacks-estimate : b ≡ true → 1 ≡ lacks m e d
+  unfolding lacks
+  lacks-estimate t = rw (← h, t)
+
+  pub lacks-nothing : b ≡ false → (m ≡ 1 → ⊥) → 0 ≡ lacks m e d
+  unfolding lacks
+  lacks-nothing t g = rw (← h, t, ne-eqb m 1 g)
+
+  pub lacks-distance : (c : Bool) → b ≡ false → m ≡ 1 → c ≡ nanBits binary32 d → c ≡ true → 1 ≡ lacks m e d
+  unfolding lacks
+  lacks-distance c t g k u = rw (← h, t, g, ← k, u)
+
+  pub lacks-neither : (c : Bool) → b ≡ false → m ≡ 1 → c ≡ nanBits binary32 d → c ≡ false → 0 ≡ lacks m e d
+  unfolding lacks
+  lacks-neither c t g k u = rw (← h, t, g, ← k, u)
+
+pub key-at : (k : ℕ) (s m : List ℕ) (i u v : ℕ) → u ≡ numAt 4 s (4 * i) → v ≡ keyIf (eqb (getD m i 0) k) u → v ≡ keyAt k s m i
+unfolding keyAt
+key-at k s m i u v p q = rw p at q
+
+-- ---- the marks of a block
+counts-none : (m : List ℕ) (from : ℕ) → CountsOf m from from 0 0
+counts-none m from = record { bad-is = omega arith; count-is = omega arith; few-bad = omega arith; few = omega arith }
+
+pub counts-first : (m : List ℕ) (from to : ℕ) → from ≤ to → (from ≤ from) × (from ≤ to) × CountsOf m from from 0 0
+counts-first m from to h = (omega arith, h, counts-none m from)
+
+pub counts-more : (m : List ℕ) (from i bad count x y : ℕ) → CountsOf m from i bad count → x ≡ aboveTwo (getD m i 0) → x ≤ 1 → y ≡ notZero (getD m i 0) → y ≤ 1
+    → CountsOf m from (i + 1) (bad + x) (count + y)
+counts-more m from i bad count x y c p a q b =
+    record {
+      bad-is = omega (arith, sum-more i (λ j. aboveTwo (getD m j 0)), c .bad-is);
+      count-is = omega (arith, sum-more i (λ j. notZero (getD m j 0)), c .count-is);
+      few-bad = omega (arith, c .few-bad);
+      few = omega (arith, c .few);
+    }
+
+-- ---- the least key
+pub key-none : (g : ℕ → ℕ) → noKey ≡ leastKey 0 g
+unfolding leastKey
+key-none g = refl
+
+pub key-more : (g : ℕ → ℕ) (i old v r : ℕ) → old ≡ leastKey i g → v ≡ g i → r ≡ lesser old v → r ≡ leastKey (i + 1) g
+unfolding leastKey
+key-more g i old v r p q e = rw (add-one i, ← p, ← q) e
+
+lesser-le : (a b : ℕ) → (lesser a b ≤ a) × (lesser a b ≤ b)
+lesser-le a b = go (ltb b a) refl
+  where
+    go : (t : Bool) → ltb b a ≡ t → (cond t b a ≤ a) × (cond t b a ≤ b)
+    go true e = (omega (arith, ltb-true b a e), omega arith)
+    go false e = (omega arith, ltb-false b a e)
+
+lesser-is : (a b : ℕ) → (lesser a b ≡ a) ⊎ (lesser a b ≡ b)
+lesser-is a b = go (ltb b a)
+  where
+    go : (t : Bool) → (cond t b a ≡ a) ⊎ (cond t b a ≡ b)
+    go true = inr refl
+    go false = inl refl
+
+module _ (g : ℕ → ℕ) where
+  pub key-falls : (i n : ℕ) → i ≤ n → leastKey n g ≤ leastKey i g
+  unfolding leastKey
+  key-falls i zero h = let e : i ≡ 0 = omega arith in rw e (omega arith)
+  key-falls i (suc n) h =
+      elim (ℕ-discrete i (suc n)) [
+        | yes e ↦ rw e (omega arith)
+        | no f ↦ omega (arith, key-falls i n (omega arith), lesser-le (leastKey n g) (g n) .0)
+      ]
+
+  pub key-low : (n q : ℕ) → q < n → leastKey n g ≤ g q
+  key-low n q h = omega (arith, key-falls (suc q) n h, at q)
+    where
+      at : (q : ℕ) → leastKey (suc q) g ≤ g q
+      at q = unfold leastKey in lesser-le (leastKey q g) (g q) .1
+
+  pub key-most : (n : ℕ) → leastKey n g ≤ noKey
+  unfolding leastKey
+  key-most n = key-falls 0 n (omega arith)
+
+  -- it is none, or that of a place
+  pub key-hit : (n : ℕ) → (leastKey n g ≡ noKey) ⊎ ((q : ℕ) × (q < n) × (g q ≡ leastKey n g))
+  unfolding leastKey
+  key-hit zero = inl refl
+  key-hit (suc n) = elim (lesser-is (leastKey n g) (g n)) [ inl e ↦ old e (key-hit n) | inr e ↦ inr (n, omega arith, sym e) ]
+    where
+      old : lesser (leastKey n g) (g n) ≡ leastKey n g → (leastKey n g ≡ noKey) ⊎ ((q : ℕ) × (q < n) × (g q ≡ leastKey n g))
+          → (lesser (leastKey n g) (g n) ≡ noKey) ⊎ ((q : ℕ) × (q < suc n) × (g q ≡ lesser (leastKey n g) (g n)))
+      old e (inl z) = inl (e ∙ z)
+      old e (inr x) = inr (x .0, omega (arith, x .1), x .2 ∙ sym e)
+
+-- ---- one place more
+lack-le : (e d m : List ℕ) (i : ℕ) → lackAt e d m i ≤ 1
+unfolding lackAt lacks
+lack-le e d m i = go (nanBits binary32 (numAt 4 e (4 * i)) || (eqb (getD m i 0) 1 && nanBits binary32 (numAt 4 d (4 * i))))
+  where
+    go : (b : Bool) → cond b 1 0 ≤ 1
+    go true = omega arith
+    go false = omega arith
+
+pub keys-few : (e d m : List ℕ) (i : ℕ) (s : Keys) → KeysTo e d m i s → s .missing ≤ i
+keys-few e d m i s k = omega (arith, k .missing, sum-le 1 i (lackAt e d m) (lack-le e d m))
+
+pub keys-more : (e d m : List ℕ) (i x u v : ℕ) (s r : Keys) → KeysTo e d m i s → x ≡ getD m i 0 → u ≡ numAt 4 e (4 * i) → v ≡ numAt 4 d (4 * i)
+    → (r .missing ≡ s .missing + lacks x u v) × ((r .waiting ≡ lesser (s .waiting) (keyIf (eqb x 0) u)) × (r .asked ≡ lesser (s .asked) (keyIf (eqb x 1) v)))
+    → KeysTo e d m (i + 1) r
+unfolding lackAt keyAt lacks
+keys-more e d m i x u v s r k a b c h =
+    record {
+      missing = h .0 ∙ ap (λ (n : ℕ). s .missing + n) here ∙ ap (λ (n : ℕ). n + lackAt e d m i) (k .missing) ∙ sym (sum-more i (lackAt e d m));
+      waiting = key-more (keyAt 0 e m) i (s .waiting) (keyIf (eqb x 0) u) (r .waiting) (k .waiting) (rw (a, b)) (h .1 .0);
+      asked = key-more (keyAt 1 d m) i (s .asked) (keyIf (eqb x 1) v) (r .asked) (k .asked) (rw (a, c)) (h .1 .1);
+    }
+  where
+    here : lacks x u v ≡ lackAt e d m i
+    here = rw (a, b, c)
+
+-- ---- one block more
+pub scan-none : (e d m : List ℕ) (s : Scan) → s .bad ≡ 0 → s .count ≡ 0 → s .keys .missing ≡ 0 → s .keys .waiting ≡ noKey → s .keys .asked ≡ noKey
+    → s .«waits_from» ≡ 0 → s .«asked_from» ≡ 0 → ScanTo e d m 0 s
+unfolding sumTo
+scan-none e d m s a b c w x f g =
+    record {
+      keys = record { missing = c; waiting = w ∙ key-none (keyAt 0 e m); asked = x ∙ key-none (keyAt 1 d m) };
+      bad = a;
+      count = b;
+      waits-from = λ q l. absurd (omega (arith, f));
+      asked-from = λ q l. absurd (omega (arith, g));
+    }
+
+sum-few : (f : ℕ → ℕ) (n : ℕ) → ((i : ℕ) → f i ≤ 1) → sumTo n f ≤ n
+sum-few f n h = omega (arith, sum-le 1 n f h)
+
+one-or-none : (b : Bool) → cond b 0 1 ≤ 1
+one-or-none true = omega arith
+one-or-none false = omega arith
+
+pub scan-few : (e d m : List ℕ) (i : ℕ) (s : Scan) → ScanTo e d m i s → (s .bad ≤ i) × (s .count ≤ i)
+scan-few e d m i s k = (
+  rw (k .bad) (sum-few (λ j. aboveTwo (getD m j 0)) i (λ j. one-or-none (leb (getD m j 0) 2))),
+  rw (k .count) (sum-few (λ j. notZero (getD m j 0)) i (λ j. one-or-none (eqb (getD m j 0) 0))),
+)
+
+-- no place before the block of the least key has it
+from-more : (g : ℕ → ℕ) (i to from : ℕ) → i ≤ to → ((q : ℕ) → q < from → leastKey i g < g q) → (q : ℕ)
+    → q < cond (ltb (leastKey to g) (leastKey i g)) i from → leastKey to g < g q
+from-more g i to from h f q = go (ltb (leastKey to g) (leastKey i g)) refl
+  where
+    go : (b : Bool) → ltb (leastKey to g) (leastKey i g) ≡ b → q < cond b i from → leastKey to g < g q
+    go true e l = omega (arith, ltb-true (leastKey to g) (leastKey i g) e, key-low g i q l)
+    go false e l = omega (arith, f q l, key-falls g i to h)
+
+pub scan-more : (e d m : List ℕ) (i to : ℕ) (s r : Scan) (c : Counts) (keys : Keys) → i ≤ to → ScanTo e d m i s → CountsOf m i to (c .bad) (c .count) → KeysTo e d m to keys
+    → WithBlock s c keys i r → ScanTo e d m to r
+scan-more e d m i to s r c keys h a b k w =
+    record {
+      keys = rw (w .same-keys) k;
+      bad = omega (arith, w .bad, a .bad, b .bad-is);
+      count = omega (arith, w .count, a .count, b .count-is);
+      waits-from = λ q l. rw (w .same-keys) (waits q (rw (w .waits-from) at l));
+      asked-from = λ q l. rw (w .same-keys) (asks q (rw (w .asked-from) at l));
+    }
+  where
+    waits : (q : ℕ) → q < cond (ltb (keys .waiting) (s .keys .waiting)) i (s .«waits_from») → keys .waiting < keyAt 0 e m q
+    waits q l =
+        rw (k .waiting) (from-more (keyAt 0 e m) i to (s .«waits_from») h (λ q l. rw (← a .keys .waiting) (a .waits-from q l)) q
+        (subst (λ (z : ℕ). q < cond (ltb z (leastKey i (keyAt 0 e m))) i (s .«waits_from»)) (k .waiting) (subst (λ (z : ℕ). q < cond (ltb (keys .waiting) z) i (s .«waits_from»)) (a .keys .waiting) l)))
+
+    asks : (q : ℕ) → q < cond (ltb (keys .asked) (s .keys .asked)) i (s .«asked_from») → keys .asked < keyAt 1 d m q
+    asks q l =
+        rw (k .asked) (from-more (keyAt 1 d m) i to (s .«asked_from») h (λ q l. rw (← a .keys .asked) (a .asked-from q l)) q
+        (subst (λ (z : ℕ). q < cond (ltb z (leastKey i (keyAt 1 d m))) i (s .«asked_from»)) (k .asked) (subst (λ (z : ℕ). q < cond (ltb (keys .asked) z) i (s .«asked_from»)) (a .keys .asked) l)))
+
+-- ---- the refusal that the scan finds
+any-sum : (p : ℕ → Bool) (f : ℕ → ℕ) (n : ℕ) → ((i : ℕ) → f i ≡ cond (p i) 1 0) → ltb 0 (sumTo n f) ≡ anyBelow n p
+unfolding sumTo
+any-sum p f zero h = sym (any-none p)
+any-sum p f (suc n) h = any-more p n (sumTo n f) (f n) (any-sum p f n h) (h n) ∙ ap (λ (k : ℕ). anyBelow k p) (add-one n)
+
+module _ (e d m : List ℕ) (s : Scan) (k : ScanTo e d m (length m) s) where
+  found-missing : ltb 0 (s .keys .missing) ≡ missing (stateOf e d m)
+  unfolding missing
+  found-missing = rw (k .keys .missing) (any-sum (missingAt (stateOf e d m)) (lackAt e d m) (length m) here)
+    where
+      here : (i : ℕ) → lackAt e d m i ≡ cond (missingAt (stateOf e d m) i) 1 0
+      here i = unfold lackAt in unfold lacks in unfold missingAt in unfold f32At in
+          rw (nanBits-is binary32 (numAt 4 e (4 * i)), nanBits-is binary32 (numAt 4 d (4 * i)))
+
+  found-bad : ltb 0 (s .bad) ≡ badMark (stateOf e d m)
+  unfolding badMark
+  found-bad = rw (k .bad) (any-sum (λ i. not (leb (getD m i 0) 2)) (λ i. aboveTwo (getD m i 0)) (length m) (λ i. go (leb (getD m i 0) 2)))
+    where
+      go : (b : Bool) → _≡_ {A = ℕ} (cond b 0 1) (cond (not b) 1 0)
+      go true = refl
+      go false = refl
+
+  pub found-refusal : cond (ltb 0 (s .keys .missing)) 4 (cond (ltb 0 (s .bad)) 5 0) ≡ nextRefusal (stateOf e d m)
+  unfolding nextRefusal
+  found-refusal = rw (found-missing, found-bad)
+
+-- ---- the search for a key's place
+pub first-none : (g : ℕ → ℕ) (from key : ℕ) → (q : ℕ) → from ≤ q → q < from → g q ≡ key → ⊥
+first-none g from key q a b e = omega arith
+
+pub first-more : (g : ℕ → ℕ) (from key i v : ℕ) → v ≡ g i → (v ≡ key → ⊥) → ((q : ℕ) → from ≤ q → q < i → g q ≡ key → ⊥)
+    → (q : ℕ) → from ≤ q → q < i + 1 → g q ≡ key → ⊥
+first-more g from key i v e h f q a b x =
+    elim (decLt q i) [ yes l ↦ f q a l x | no n ↦ let z : q ≡ i = omega arith in h (e ∙ subst (λ (k : ℕ). g k ≡ key) z x) ]
+
+pub first-found : (g : ℕ → ℕ) (from key n i v : ℕ) → i < n → v ≡ g i → v ≡ key → ((q : ℕ) → from ≤ q → q < i → g q ≡ key → ⊥) → FirstAt g from n key i
+first-found g from key n i v l e h f = record { inside = omega arith; none-before = f; here = λ _. sym e ∙ h }
+
+pub first-nowhere : (g : ℕ → ℕ) (from key n i : ℕ) → n ≤ i → ((q : ℕ) → from ≤ q → q < i → g q ≡ key → ⊥) → FirstAt g from n key n
+first-nowhere g from key n i l f = record { inside = omega arith; none-before = λ q a b. f q a (omega arith); here = λ h. absurd (omega arith) }

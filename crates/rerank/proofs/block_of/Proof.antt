@@ -1,0 +1,14 @@
+-- `rerank::block_of` meets its contract. Assumes nothing.
+use borrow.Author.Tests.{lt-ltb, le-ltb}
+use native.Mathlib.Omega.{arith}
+use Rattle.rerank.proofs.block_of.Statement.{statement}
+use Rattle.rerank.proofs.block_of.Tie as tie
+
+returns : tie.Need-returns
+returns c = rw (lt-ltb _ _ (c .if1 .taken))
+
+returns-2 : tie.Need-returns-2
+returns-2 c = rw (le-ltb _ _ (c .if1 .left))
+
+pub block-of-spec : {M : Type 1} → statement M
+block-of-spec = tie.close (tie.spec returns returns-2)

@@ -1,0 +1,43 @@
+-- `rerank::choose` meets its contract. Assumes nothing.
+use native.Mathlib.Omega.{arith}
+use Rattle.rerank.proofs.ChoiceLaws.{ask-small, says-ask, says-done, give-small, give-room, says-give}
+use Rattle.rerank.proofs.ScanLaws.{sized-of}
+use Rattle.rerank.proofs.choose.Statement.{statement}
+use Rattle.rerank.proofs.choose.Tie as tie
+
+first-at-requires : tie.Need-first-at-requires
+first-at-requires c κs = sized-of _ _ _ (c .before .before .before .before .before .before .pre .sized) .estimates
+
+cast-t9 : tie.Need-cast-t9
+cast-t9 c = omega (arith, ask-small _ _ _ _ (c .before .before .before .before .before .before .before .pre) _ (c .before .if1 .taken) (c .first-at .ensures))
+
+returns : tie.Need-returns
+returns c = says-ask _ _ _ _ (c .before .before .before .before .before .before .before .pre) _ (c .before .if1 .taken) (c .first-at .ensures)
+
+returns-2 : tie.Need-returns-2
+returns-2 c = says-done _ _ _ _ (c .before .before .before .before .before .before .before .before .pre) (c .before .before .if1 .left) (c .if2 .taken)
+
+first-at-requires-2 : tie.Need-first-at-requires-2
+first-at-requires-2 c κs = sized-of _ _ _ (c .before .before .before .before .before .before .before .before .pre .sized) .distances
+
+cast-t10 : tie.Need-cast-t10
+cast-t10 c = omega (arith, give-small _ _ _ _ (c .before .before .before .before .before .before .before .before .before .pre) _ (c .before .before .before .if1 .left) (c .before .if2 .left) (c .first-at2 .ensures))
+
+f32-at-requires : tie.Need-f32-at-requires
+f32-at-requires c κs = give-room _ _ _ _ (c .before .before .before .before .before .before .before .before .before .pre) _ (c .before .before .before .if1 .left) (c .before .if2 .left) (c .first-at2 .ensures)
+
+returns-3 : tie.Need-returns-3
+returns-3 c = rw (c .f32-at .ensures) (says-give _ _ _ _ (c .before .before .before .before .before .before .before .before .before .before .pre) _ (c .before .before .before .before .if1 .left) (c .before .before .if2 .left) (c .before .first-at2 .ensures))
+
+pub choose-spec : {M : Type 1} → statement M
+choose-spec =
+    tie.close
+    (tie.spec
+    first-at-requires
+    cast-t9
+    returns
+    returns-2
+    first-at-requires-2
+    cast-t10
+    f32-at-requires
+    returns-3)

@@ -1,0 +1,60 @@
+-- `rerank::scan_lists` meets its contract. The loop's invariant: the scan is that of the places passed. Assumes nothing.
+use mathlib.Core.Path.{_≡_, refl}
+use Prim.Native.Nat.{_≤_, _-_}
+use native.Mathlib.Omega.{arith}
+use lib.ListN.{length}
+use Rattle.rerank.specs.Scan.{ScanTo}
+use Rattle.rerank.proofs.ScanLaws.{sized-of, scan-none, scan-few, scan-more}
+use borrow.Author.Needs.{needs}
+use Rattle.rerank.proofs.scan_lists.Statement.{statement}
+use Rattle.rerank.proofs.scan_lists.Tie as tie
+
+abbrev Inv-loop : tie.InvT-loop
+Inv-loop e d m n s₀ i₀ s i = (n ≡ length m) × (i ≤ n) × ScanTo e d m i s
+
+abbrev μ-loop : tie.MeasureT-loop
+μ-loop e d m n s₀ i₀ s i = n - i
+
+loop-holds : tie.Need-loop-holds Inv-loop μ-loop
+loop-holds c = (refl, omega arith, scan-none _ _ _ _ refl refl refl refl refl refl refl)
+
+block-end-requires : tie.Need-block-end-requires Inv-loop μ-loop
+block-end-requires c κs = search needs
+
+count-marks-requires : tie.Need-count-marks-requires Inv-loop μ-loop
+count-marks-requires c κs = search needs
+
+add-keys-requires : tie.Need-add-keys-requires Inv-loop μ-loop
+add-keys-requires c κs = (c .before .before .before .before .before .before .before .pre, ((omega arith, omega arith), c .before .before .before .loop .inv .2 .keys))
+
+add-block-requires : tie.Need-add-block-requires Inv-loop μ-loop
+add-block-requires c κs =
+    let z = sized-of _ _ _ (c .before .before .before .before .before .before .before .before .pre) in
+    let k = c .before .count-marks .ensures in
+    omega (arith, scan-few _ _ _ _ _ (c .before .before .before .before .loop .inv .2))
+
+loop-less : tie.Need-loop-less Inv-loop μ-loop
+loop-less c = search needs
+
+loop-again : tie.Need-loop-again Inv-loop μ-loop
+loop-again c = (refl, omega arith, scan-more _ _ _ _ _ _ _ _ _ (omega arith) (c .before .before .before .before .before .loop .inv .2) (c .before .before .count-marks .ensures) (c .before .add-keys .ensures) (c .add-block .ensures))
+
+returns : tie.Need-returns Inv-loop μ-loop
+returns c =
+    let e : c .before .loop .i ≡ length (c .before .before .before .before .before .args .m .now) = omega arith in
+    rw e at (c .before .loop .inv .2)
+
+pub scan-lists-spec : {M : Type 1} → statement M
+scan-lists-spec =
+    tie.close
+    (tie.spec
+    Inv-loop
+    μ-loop
+    loop-holds
+    block-end-requires
+    count-marks-requires
+    add-keys-requires
+    add-block-requires
+    loop-less
+    loop-again
+    returns)

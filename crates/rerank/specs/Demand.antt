@@ -1,0 +1,141 @@
+-- Demand 3, stated over runs of accepted calls and over the bytes that the calls are lent. `DemandLaws` proves it.
+use mathlib.Core.Path.{_≡_}
+use mathlib.Core.Bool.{true, false, cond}
+use mathlib.Core.List.{List, [], _∷_, _++_}
+use Prim.Native.Nat.{ℕ, _+_, _*_, _^_, _<_}
+use lib.Dec.{eqb}
+use lib.Ieee.{Float, lt, isNan, ofBits, binary32}
+use Rattle.words.specs.Bytes.{numAt, f32At}
+use Rattle.words.specs.Sums.{sumTo}
+use Rattle.rerank.specs.Rerank.{State, answer, supplyRefusal, Event, asked, supply, gave, done, ran, Run, tally, aSupply, aGive, supplyOf, giveOf, drive}
+use Rattle.rerank.specs.Calls.{stateOf, nextAnswer, supplyAnswer}
+use Rattle.rerank.specs.declared.Answer.the-variants.{Ask}
+
+-- ---- what is given
+
+-- no candidate was asked for yet, and no estimate is a NaN
+pub record Fresh (s : State) : Type 0 where
+  pub waits : (q : ℕ) → q < s .size → s .mark q ≡ 0
+  pub numbers : (q : ℕ) → q < s .size → isNan (s .estimate q) ≡ false
+
+-- the premise: each supplied distance is not below its place's estimate
+unfoldable pub Lower : (ℕ → Float) → List Event → Type 0
+Lower f [] = Unit {0}
+Lower f (asked p ∷ es) = Lower f es
+Lower f (supply p d ∷ es) = (lt d (f p) ≡ false) × Lower f es
+Lower f (gave p d ∷ es) = Lower f es
+Lower f (done ∷ es) = Lower f es
+
+-- ---- what holds of a run to Done, es being the calls before that Done. `ran s fs` is the state after the calls fs
+
+-- the distance d was supplied for p
+pub record Supplied (p : ℕ) (d : Float) (es : List Event) : Type 0 where
+  pub earlier : List Event
+  pub later : List Event
+  pub here : es ≡ earlier ++ (supply p d ∷ later)
+
+-- with or without the premise
+pub record Finished (s : State) (es : List Event) : Type 0 where
+  -- one by one: in each state only the place that Ask names can be supplied
+  pub one-by-one : (fs gs : List Event) (p : ℕ) (d : Float) → es ≡ fs ++ gs → supplyRefusal (ran s fs) p d ≡ 0 → answer (ran s fs) ≡ Ask p
+  -- every candidate is handed out once, and its distance was supplied once
+  pub once : (q : ℕ) → q < s .size → (tally (giveOf q) es ≡ 1) × (tally (supplyOf q) es ≡ 1)
+  -- exact: what is handed out is the distance that was supplied for it
+  pub exact : (fs gs : List Event) (p : ℕ) (d : Float) → es ≡ fs ++ (gave p d ∷ gs) → Supplied p d fs
+  -- when one is handed out at d, every candidate with an estimate below d has been asked for
+  pub below : (fs gs : List Event) (p q : ℕ) (d : Float) → es ≡ fs ++ (gave p d ∷ gs) → q < s .size → lt (s .estimate q) d ≡ true
+      → ran s fs .mark q ≡ 0 → ⊥
+  -- if x is given and later y, and y's distance is less, then y's own estimate was above y's distance
+  pub blame : (fs gs hs : List Event) (x y : ℕ) (dx dy : Float) → es ≡ fs ++ (gave x dx ∷ (gs ++ (gave y dy ∷ hs)))
+      → lt dy dx ≡ true → lt dy (s .estimate y) ≡ true
+  -- n accepted distances and n gives
+  pub distances : tally aSupply es ≡ s .size
+  pub gives : tally aGive es ≡ s .size
+
+-- with the premise
+pub record Demand3 (s : State) (es : List Event) : Type 0 where
+  pub finished : Finished s es
+  -- distances never fall
+  pub rising : (fs gs hs : List Event) (x y : ℕ) (dx dy : Float) → es ≡ fs ++ (gave x dx ∷ (gs ++ (gave y dy ∷ hs))) → lt dy dx ≡ false
+  -- when one is handed out at d, no candidate with an estimate above d has been asked for
+  pub above : (fs gs : List Event) (p q : ℕ) (d : Float) → es ≡ fs ++ (gave p d ∷ gs) → q < s .size → lt d (s .estimate q) ≡ true
+      → ran s fs .mark q ≡ 0
+
+-- a run to Done
+pub record Ends (s : State) (es : List Event) : Type 0 where
+  pub calls : List Event
+  pub last : es ≡ calls ++ (done ∷ [])
+  pub accepted : Run s es
+
+-- ---- the same over bytes
+
+-- the lists that the calls are lent, and that only they change
+pub record Lists : Type 0 where
+  pub estimates : List ℕ
+  pub distances : List ℕ
+  pub marks : List ℕ
+
+-- one call, with what `out` holds before it. A float parameter is any bit pattern
+pub data Call : Type 0 where
+  next : List ℕ → Call
+  supplies : ℕ → ℕ → List ℕ → Call
+
+abbrev pub held : Lists → State
+held b = stateOf (b .estimates) (b .distances) (b .marks)
+
+-- the number that it returns, the lists that it leaves, and `out` after it
+pub record Answered : Type 0 where
+  pub number : ℕ
+  pub lists : Lists
+  pub out : List ℕ
+
+unfoldable pub call : Lists → Call → Answered
+call b (next out) =
+    let r = nextAnswer (b .estimates) (b .distances) (b .marks) out in
+    record { number = r .0; lists = record { estimates = b .estimates; distances = b .distances; marks = r .1 }; out = r .2 }
+call b (supplies place bits out) =
+    let r = supplyAnswer (b .estimates) (b .distances) (b .marks) place (ofBits binary32 bits) out in
+    record { number = r .0; lists = record { estimates = b .estimates; distances = r .1; marks = r .2 }; out = r .3 }
+
+-- the event that next's bytes tell: 1 Ask, 2 Give, 0 Done, then the place and the distance
+unfoldable pub told : List ℕ → Event
+told out = cond (eqb (numAt 4 out 0) 1) (asked (numAt 4 out 4)) (cond (eqb (numAt 4 out 0) 2) (gave (numAt 4 out 4) (f32At out 2)) done)
+
+-- the event of a call, where it was accepted, and the count that it reported
+unfoldable pub seen : Call → Answered → List Event
+seen (next out) r = cond (eqb (r .number) 0) (told (r .out) ∷ []) []
+seen (supplies place bits out) r = cond (eqb (r .number) 0) (supply place (ofBits binary32 bits) ∷ []) []
+
+unfoldable pub reported : Call → Answered → ℕ
+reported (next out) r = numAt 4 (r .out) 12
+reported (supplies place bits out) r = numAt 4 (r .out) 0
+
+-- the lists after some calls, refused ones among them, and the events that they were heard to make
+unfoldable pub left : Lists → List Call → Lists
+left b [] = b
+left b (c ∷ cs) = left (call b c .lists) cs
+
+unfoldable pub heard : Lists → List Call → List Event
+heard b [] = []
+heard b (c ∷ cs) = seen c (call b c) ++ heard (call b c .lists) cs
+
+-- the candidates no longer waiting
+unfoldable pub notWaiting : State → ℕ
+notWaiting s = sumTo (s .size) (λ i. cond (eqb (s .mark i) 0) 0 1)
+
+-- demand 3. b is any lent lists, cs any calls on them, and nothing else changes them; es is what was heard before Done. (Lists of other
+-- lengths, or of more than 4,096 places, are refused, and nothing is heard.)
+pub record Demand : Type 0 where
+  -- the accepted calls are a run of the rule, and the bytes hold its states
+  pub runs : (b : Lists) (cs : List Call) → Run (held b) (heard b cs) × (held (left b cs) ≡ ran (held b) (heard b cs))
+  -- the count that an accepted call reports is that of the candidates no longer waiting
+  pub counts : (b : Lists) (c : Call) → call b c .number ≡ 0 → reported c (call b c) ≡ notWaiting (held (call b c .lists))
+  -- with or without the premise
+  pub finishes : (b : Lists) (cs : List Call) (es : List Event) → Fresh (held b) → heard b cs ≡ es ++ (done ∷ []) → Finished (held b) es
+  -- with it
+  pub holds : (b : Lists) (cs : List Call) (es : List Event) → Fresh (held b) → heard b cs ≡ es ++ (done ∷ []) → Lower (held b .estimate) es
+      → Demand3 (held b) es
+  -- a caller that supplies a number for whatever is asked for comes to Done, in at most 2 n + 1 turns
+  pub ends : (s : State) (table : ℕ → Float) → Fresh s → ((q : ℕ) → q < s .size → isNan (table q) ≡ false) → Ends s (drive (2 * s .size + 1) table s)
+  -- floats that are no NaN are equal only where their bits are: so what is handed out has the bits that were supplied
+  pub bits : (u v : ℕ) → u < 2 ^ 32 → v < 2 ^ 32 → isNan (ofBits binary32 u) ≡ false → ofBits binary32 u ≡ ofBits binary32 v → u ≡ v

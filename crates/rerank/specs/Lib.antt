@@ -1,0 +1,5 @@
+pub mod Rerank
+pub mod Calls
+pub mod Demand
+pub mod Examples
+pub mod Scan

@@ -47,7 +47,8 @@ nibble-high block j g h byte =
 
 -- ---- the bytes of a lane as a single code
 
-pub lane-factor : (dims : ℕ) (block : List ℕ) (k i : ℕ) → i < 16 → codeByte dims (laneFactor block k) (laneBit block k) i ≡ getD block (128 * (i / 4) + 4 * k + i % 4) 0
+pub lane-factor : (dims : ℕ) (block : List ℕ) (k i : ℕ) → i < 16
+    → codeByte dims (laneFactor block k) (laneBit block k) i ≡ getD block (128 * (i / 4) + 4 * k + i % 4) 0
 unfolding codeByte laneFactor
 lane-factor dims block k i l = rw (lt-ltb i 16 l)
 

@@ -15,7 +15,8 @@ use Rattle.words.proofs.ListLaws.{joined-at, tabulate-at, tabulate-ext, filled}
 use Rattle.words.proofs.DigitLaws.{lt-or-ge, kept-in, kept-lt, kept-ext, bits-lt, join-ext, bit-join}
 use Rattle.code.specs.Code.{codeSize, codeBit, codeByte, codeOf, clearedCode}
 use Rattle.code.proofs.CodeLaws.{code-bit-lt, join-whole, code-ext, length-code, factor-of-code, bit-of-code, made-cleared}
-use Rattle.block.specs.Block.{blockGroups, blockSize, laneFactor, laneNibble, laneBit, laneCode, groupNibble, groupByte, blockByte, blockOf, codeAt, packedByte, packed, clearedBlock, lanesOf}
+use Rattle.block.specs.Block.{blockGroups, blockSize, laneFactor, laneNibble, laneBit, laneCode, groupNibble, groupByte, blockByte, blockOf}
+use Rattle.block.specs.Block.{codeAt, packedByte, packed, clearedBlock, lanesOf}
 use Rattle.block.proofs.LaneLaws.{lane-bit-lt, lane-bit-at, nibble-lt, nibble-low, nibble-high}
 
 -- ---- a block made of factor bytes and bits
@@ -44,7 +45,8 @@ module _ (dims : ℕ) (f b : ℕ → ℕ → ℕ) where
     unfolding groupNibble
     group-nibble-lt g k = bits-lt 4 (λ i. kept dims (b k) (4 * g + i)) (nibble-two g k)
 
-    group-at : (g j : ℕ) → g < blockGroups dims → j < 16 → getD (blockOf dims f b) (512 + 16 * g + j) 0 ≡ groupNibble dims b g j + 16 * groupNibble dims b g (j + 16)
+    group-at : (g j : ℕ) → g < blockGroups dims → j < 16
+        → getD (blockOf dims f b) (512 + 16 * g + j) 0 ≡ groupNibble dims b g j + 16 * groupNibble dims b g (j + 16)
     unfolding blockOf groupByte
     group-at g j hg hj =
         let i = 512 + 16 * g + j in
@@ -98,7 +100,8 @@ block-ext dims f f′ b b′ ef eb = tabulate-ext (blockSize dims) (blockByte di
     group : (i : ℕ) → 512 ≤ i → blockByte dims f b i ≡ blockByte dims f′ b′ i
     group i l =
         byte-group dims f b i l
-        ∙ byte-ext dims b b′ ((i - 512) / 16) ((i - 512) % 16) (nibble ((i - 512) / 16) ((i - 512) % 16) (omega arith)) (nibble ((i - 512) / 16) ((i - 512) % 16 + 16) (omega arith))
+        ∙ byte-ext dims b b′ ((i - 512) / 16) ((i - 512) % 16) (nibble ((i - 512) / 16) ((i - 512) % 16) (omega arith))
+        (nibble ((i - 512) / 16) ((i - 512) % 16 + 16) (omega arith))
         ∙ sym (byte-group dims f′ b′ i l)
 
 factor-at : (block : List ℕ) (k i n : ℕ) → 128 * (i / 4) + 4 * k + i % 4 ≡ n → laneFactor block k i ≡ getD block n 0
@@ -141,7 +144,8 @@ unfolding packed clearedBlock laneCode
 packed-of-lanes dims block =
     block-ext dims (λ k i. getD (codeAt dims lanes k) i 0) (laneFactor block) (λ k. codeBit (codeAt dims lanes k)) (laneBit block)
     (λ k i h l. ap (λ (c : List ℕ). getD c i 0) (code-of-lanes dims block k h) ∙ factor-of-code dims (laneFactor block k) (laneBit block k) i l)
-    (λ k d h l. ap (λ (c : List ℕ). codeBit c d) (code-of-lanes dims block k h) ∙ bit-of-code dims (laneFactor block k) (laneBit block k) (lane-bit-lt block k) d l)
+    (λ k d h l. ap (λ (c : List ℕ). codeBit c d) (code-of-lanes dims block k h)
+    ∙ bit-of-code dims (laneFactor block k) (laneBit block k) (lane-bit-lt block k) d l)
   where
     lanes : List ℕ
     lanes = lanesOf dims block
@@ -181,6 +185,11 @@ block-cleared dims block size byte pad =
         let j = (i - 512) % 16 in
         let at : 512 + 16 * g + j ≡ i = omega arith in
         sym (byte-group dims (laneFactor block) (laneBit block) i l ∙ byte-of dims (laneBit block) g j
-        ∙ omega (arith, nibble g j (omega arith) (omega arith), nibble g (j + 16) (omega arith) (omega arith), nibble-low block j g (omega arith),
-        nibble-high block j g (omega arith) (byte (512 + 16 * g + j)))
+        ∙ omega (
+          arith,
+          nibble g j (omega arith) (omega arith),
+          nibble g (j + 16) (omega arith) (omega arith),
+          nibble-low block j g (omega arith),
+          nibble-high block j g (omega arith) (byte (512 + 16 * g + j)),
+        )
         ∙ ap (λ (x : ℕ). getD block x 0) at)

@@ -19,7 +19,8 @@ bad-dims-requires c κs = search needs
 
 returns : tie.Need-returns
 returns c =
-    let a = c .before .before .before .before .args in lane-dims (a .dims) (now (a .block)) (a .lane) (now (a .code)) (sym (c .before .bad-dims .ensures) ∙ c .if1 .taken)
+    let a = c .before .before .before .before .args in lane-dims (a .dims) (now (a .block)) (a .lane) (now (a .code))
+    (sym (c .before .bad-dims .ensures) ∙ c .if1 .taken)
 
 size-requires : tie.Need-size-requires
 size-requires c κs = few-dims mostDims _ (sym (c .before .bad-dims .ensures) ∙ c .if1 .left)
@@ -61,9 +62,12 @@ same-length c = search needs
 returns-5 : tie.Need-returns-5
 returns-5 c =
     let a = c .before .before .before .before .before .before .before .before .before .before .before .before .before .args in
-    let d = sym (c .before .before .before .before .before .before .before .before .before .before .bad-dims .ensures) ∙ c .before .before .before .before .before .before .before .before .before .if1 .left in
-    let b = sized (now (a .block)) (blockSize (a .dims)) (c .before .before .before .before .before .before .before .if2 .left ∙ c .before .before .before .before .before .before .before .before .size .ensures) in
-    let s = sized (now (a .code)) (codeSize (a .dims)) (c .before .before .before .before .before .if3 .left ∙ c .before .before .before .before .before .before .size2 .ensures) in
+    let d = sym (c .before .before .before .before .before .before .before .before .before .before .bad-dims .ensures)
+    ∙ c .before .before .before .before .before .before .before .before .before .if1 .left in
+    let b = sized (now (a .block)) (blockSize (a .dims)) (c .before .before .before .before .before .before .before .if2 .left
+    ∙ c .before .before .before .before .before .before .before .before .size .ensures) in
+    let s = sized (now (a .code)) (codeSize (a .dims)) (c .before .before .before .before .before .if3 .left
+    ∙ c .before .before .before .before .before .before .size2 .ensures) in
     ap (λ (s : List ℕ). (0, s)) (c .before .before .lane .ensures)
     ∙ lane-accepted (a .dims) (now (a .block)) (a .lane) (now (a .code)) d (none-bad _ _ b s) (c .before .before .before .before .if4 .left)
 

@@ -17,7 +17,8 @@ bad-dims-requires : tie.Need-bad-dims-requires
 bad-dims-requires c κs = search needs
 
 returns : tie.Need-returns
-returns c = let a = c .before .before .before .before .args in pack-dims (a .dims) (now (a .codes)) (now (a .block)) (sym (c .before .bad-dims .ensures) ∙ c .if1 .taken)
+returns c = let a = c .before .before .before .before .args in
+    pack-dims (a .dims) (now (a .codes)) (now (a .block)) (sym (c .before .bad-dims .ensures) ∙ c .if1 .taken)
 
 size-requires : tie.Need-size-requires
 size-requires c κs = few-dims mostDims _ (sym (c .before .bad-dims .ensures) ∙ c .if1 .left)
@@ -40,7 +41,8 @@ returns-3 : tie.Need-returns-3
 returns-3 c =
     let a = c .before .before .before .before .before .before .before .before .args in
     let d = sym (c .before .before .before .before .before .bad-dims .ensures) ∙ c .before .before .before .before .if1 .left in
-    let s = sized (now (a .codes)) (32 * codeSize (a .dims)) (c .before .before .if2 .left ∙ ap (λ (x : ℕ). 32 * x) (c .before .before .before .size .ensures)) in
+    let s = sized (now (a .codes)) (32 * codeSize (a .dims))
+    (c .before .before .if2 .left ∙ ap (λ (x : ℕ). 32 * x) (c .before .before .before .size .ensures)) in
     pack-length (a .dims) (now (a .codes)) (now (a .block)) d
     (second-bad _ _ s (unsized (now (a .block)) (blockSize (a .dims)) (λ e. c .if3 .taken (e ∙ sym (c .before .size2 .ensures)))))
 
@@ -56,9 +58,13 @@ same-length c = search needs
 returns-4 : tie.Need-returns-4
 returns-4 c =
     let a = c .before .before .before .before .before .before .before .before .before .before .before .before .args in
-    let d = sym (c .before .before .before .before .before .before .before .before .before .bad-dims .ensures) ∙ c .before .before .before .before .before .before .before .before .if1 .left in
-    let s = sized (now (a .codes)) (32 * codeSize (a .dims)) (c .before .before .before .before .before .before .if2 .left ∙ ap (λ (x : ℕ). 32 * x) (c .before .before .before .before .before .before .before .size .ensures)) in
-    let b = sized (now (a .block)) (blockSize (a .dims)) (c .before .before .before .before .if3 .left ∙ c .before .before .before .before .before .size2 .ensures) in
+    let d = sym (c .before .before .before .before .before .before .before .before .before .bad-dims .ensures)
+    ∙ c .before .before .before .before .before .before .before .before .if1 .left in
+    let s = sized (now (a .codes)) (32 * codeSize (a .dims))
+    (c .before .before .before .before .before .before .if2 .left
+    ∙ ap (λ (x : ℕ). 32 * x) (c .before .before .before .before .before .before .before .size .ensures)) in
+    let b = sized (now (a .block)) (blockSize (a .dims)) (c .before .before .before .before .if3 .left
+    ∙ c .before .before .before .before .before .size2 .ensures) in
     ap (λ (s : List ℕ). (0, s)) (c .before .before .pack .ensures) ∙ pack-accepted (a .dims) (now (a .codes)) (now (a .block)) d (none-bad _ _ s b)
 
 pub block-pack-spec : {M : Type 1} → statement M

@@ -17,7 +17,8 @@ bad-dims-requires : tie.Need-bad-dims-requires
 bad-dims-requires c κs = search needs
 
 returns : tie.Need-returns
-returns c = let a = c .before .before .before .args in size-dims (a .dims) (blockSize (a .dims)) (now (a .out)) (sym (c .before .bad-dims .ensures) ∙ c .if1 .taken)
+returns c = let a = c .before .before .before .args in size-dims (a .dims) (blockSize (a .dims)) (now (a .out))
+    (sym (c .before .bad-dims .ensures) ∙ c .if1 .taken)
 
 returns-2 : tie.Need-returns-2
 returns-2 c =
@@ -29,7 +30,11 @@ size-requires : tie.Need-size-requires
 size-requires c κs = few-dims mostDims _ (sym (c .before .before .bad-dims .ensures) ∙ c .before .if1 .left)
 
 cast-put-number : tie.Need-cast-put-number
-cast-put-number c = omega (arith, few-dims mostDims _ (sym (c .before .before .before .before .bad-dims .ensures) ∙ c .before .before .before .if1 .left), c .before .size .ensures)
+cast-put-number c = omega (
+  arith,
+  few-dims mostDims _ (sym (c .before .before .before .before .bad-dims .ensures) ∙ c .before .before .before .if1 .left),
+  c .before .size .ensures,
+)
 
 put-number-requires : tie.Need-put-number-requires
 put-number-requires c κs = search needs

@@ -18,7 +18,8 @@ bad-dims-requires c κs = search needs
 
 returns : tie.Need-returns
 returns c =
-    let a = c .before .before .before .before .args in bit-dims (a .dims) (now (a .code)) (a .index) (now (a .out)) (sym (c .before .bad-dims .ensures) ∙ c .if1 .taken)
+    let a = c .before .before .before .before .args in bit-dims (a .dims) (now (a .code)) (a .index) (now (a .out))
+    (sym (c .before .bad-dims .ensures) ∙ c .if1 .taken)
 
 size-requires : tie.Need-size-requires
 size-requires c κs = few-dims mostDims _ (sym (c .before .bad-dims .ensures) ∙ c .if1 .left)
@@ -35,7 +36,8 @@ returns-3 c =
     let a = c .before .before .before .before .before .before .before .args in
     let d = sym (c .before .before .before .before .bad-dims .ensures) ∙ c .before .before .before .if1 .left in
     bit-length (a .dims) (now (a .code)) (a .index) (now (a .out)) d
-    (second-bad _ _ (sized (now (a .code)) (codeSize (a .dims)) (c .before .if2 .left ∙ c .before .before .size .ensures)) (unsized (now (a .out)) 4 (c .if3 .taken)))
+    (second-bad _ _ (sized (now (a .code)) (codeSize (a .dims)) (c .before .if2 .left ∙ c .before .before .size .ensures))
+    (unsized (now (a .out)) 4 (c .if3 .taken)))
 
 returns-4 : tie.Need-returns-4
 returns-4 c =
@@ -57,11 +59,14 @@ same-length c = search needs
 returns-5 : tie.Need-returns-5
 returns-5 c =
     let a = c .before .before .before .before .before .before .before .before .before .before .before .before .before .args in
-    let d = sym (c .before .before .before .before .before .before .before .before .before .before .bad-dims .ensures) ∙ c .before .before .before .before .before .before .before .before .before .if1 .left in
-    let l = c .before .before .before .before .before .before .before .if2 .left ∙ c .before .before .before .before .before .before .before .before .size .ensures in
+    let d = sym (c .before .before .before .before .before .before .before .before .before .before .bad-dims .ensures)
+    ∙ c .before .before .before .before .before .before .before .before .before .if1 .left in
+    let l = c .before .before .before .before .before .before .before .if2 .left
+    ∙ c .before .before .before .before .before .before .before .before .size .ensures in
     ap (λ (s : List ℕ). (0, s)) (c .before .before .put-number .ensures ∙ ap (bytesOf 4) (c .before .before .before .bit .ensures))
     ∙ bit-accepted (a .dims) (now (a .code)) (a .index) (now (a .out)) d
-    (none-bad _ _ (sized (now (a .code)) (codeSize (a .dims)) l) (sized (now (a .out)) 4 (c .before .before .before .before .before .before .if3 .left))) (c .before .before .before .before .before .if4 .left)
+    (none-bad _ _ (sized (now (a .code)) (codeSize (a .dims)) l) (sized (now (a .out)) 4 (c .before .before .before .before .before .before .if3 .left)))
+    (c .before .before .before .before .before .if4 .left)
 
 pub code-bit-spec : {M : Type 1} → statement M
 code-bit-spec =

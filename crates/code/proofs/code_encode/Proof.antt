@@ -52,7 +52,8 @@ returns-4 c =
 
 any-missing-requires : tie.Need-any-missing-requires
 any-missing-requires c κs =
-    let d = sym (c .before .before .before .before .before .bad-dims .ensures) ∙ c .before .before .before .before .if1 .left in (omega arith, omega (arith, few-dims mostDims _ d))
+    let d = sym (c .before .before .before .before .before .bad-dims .ensures) ∙ c .before .before .before .before .if1 .left in
+    (omega arith, omega (arith, few-dims mostDims _ d))
 
 returns-5 : tie.Need-returns-5
 returns-5 c =
@@ -66,7 +67,8 @@ returns-5 c =
 
 encode-requires : tie.Need-encode-requires
 encode-requires c κs =
-    let d = sym (c .before .before .before .before .before .before .before .before .bad-dims .ensures) ∙ c .before .before .before .before .before .before .before .if1 .left in
+    let d = sym (c .before .before .before .before .before .before .before .before .bad-dims .ensures)
+    ∙ c .before .before .before .before .before .before .before .if1 .left in
     (few-dims mostDims _ d, omega arith, c .before .before .before .if4 .left ∙ c .before .before .before .before .size .ensures)
 
 same-length : tie.Need-same-length
@@ -75,10 +77,12 @@ same-length c = search needs
 returns-6 : tie.Need-returns-6
 returns-6 c =
     let a = c .before .before .before .before .before .before .before .before .before .before .before .before .before .before .before .args in
-    let d = sym (c .before .before .before .before .before .before .before .before .before .before .before .bad-dims .ensures) ∙ c .before .before .before .before .before .before .before .before .before .before .if1 .left in
+    let d = sym (c .before .before .before .before .before .before .before .before .before .before .before .bad-dims .ensures)
+    ∙ c .before .before .before .before .before .before .before .before .before .before .if1 .left in
     let f = sized (now (a .factors)) 16 (c .before .before .before .before .before .before .before .before .before .if2 .left) in
     let v = sized (now (a .vector)) (4 * a .dims) (c .before .before .before .before .before .before .before .before .if3 .left) in
-    let s = sized (now (a .code)) (codeSize (a .dims)) (c .before .before .before .before .before .before .if4 .left ∙ c .before .before .before .before .before .before .before .size .ensures) in
+    let s = sized (now (a .code)) (codeSize (a .dims)) (c .before .before .before .before .before .before .if4 .left
+    ∙ c .before .before .before .before .before .before .before .size .ensures) in
     ap (λ (s : List ℕ). (0, s)) (c .before .before .encode .ensures)
     ∙ encode-accepted (a .dims) (now (a .factors)) (now (a .vector)) (now (a .code)) d
     (none-bad _ _ (none-bad _ _ f v) s) (sym (c .before .before .before .before .before .any-missing .ensures) ∙ c .before .before .before .before .if5 .left)

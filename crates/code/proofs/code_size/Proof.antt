@@ -16,7 +16,8 @@ bad-dims-requires : tie.Need-bad-dims-requires
 bad-dims-requires c κs = search needs
 
 returns : tie.Need-returns
-returns c = let a = c .before .before .before .args in size-dims (a .dims) (codeSize (a .dims)) (now (a .out)) (sym (c .before .bad-dims .ensures) ∙ c .if1 .taken)
+returns c = let a = c .before .before .before .args in size-dims (a .dims) (codeSize (a .dims)) (now (a .out))
+    (sym (c .before .bad-dims .ensures) ∙ c .if1 .taken)
 
 returns-2 : tie.Need-returns-2
 returns-2 c =

@@ -3,16 +3,17 @@ use mathlib.Core.Path.{_≡_, refl, sym, ap, ap₂, _∙_}
 use Prim.Native.Nat.{ℕ, zero, suc, _+_, _-_, _*_, _/_, _%_, _^_, _<_, _≤_}
 use mathlib.Core.List.{List}
 use native.Mathlib.Omega.{arith}
-use native.Mathlib.Nat.{not-suc-le-zero, le-of-suc-le-suc, add-zero, zero-add, min-eq-left, mod-eq-of-lt}
+use native.Mathlib.Nat.{not-suc-le-zero, le-of-suc-le-suc, add-zero, zero-add, min-eq-left, mod-eq-of-lt, one-mul, lt-of-lt-of-le}
 use mathlib.Core.Logic.{⊎-elim}
 use lib.ListN.{length, getD, drop}
 use lib.Seq.{getD-drop}
+use lib.Pow.{shl-exact, pow-mono}
 use borrow.Author.Tests.{lt-ltb, le-ltb}
 use Rattle.words.specs.Bytes.{numAt}
-use Rattle.words.specs.Sums.{sumTo}
 use Rattle.words.specs.Digits.{bit, join, kept}
 use Rattle.words.proofs.ListLaws.{length-tabulate, tabulate-at, tabulate-ext, filled}
-use Rattle.words.proofs.DigitLaws.{bit-lt, bit-low, bit-high, bit-join, lt-or-ge, kept-in, kept-out, kept-ext, kept-lt, join-ext, join-kept}
+use Rattle.words.proofs.DigitLaws.{bit-lt, bit-low, bit-high, bit-join, lt-or-ge, kept-in, kept-out, kept-ext, kept-lt, join-ext, join-kept, join-more, bits-lt}
+use Rattle.code.specs.Calls.{signClear}
 use Rattle.code.specs.Code.{codeWords, codeSize, codeWord, codeBit, wordsBit, codeByte, codeOf, clearedCode}
 
 pub code-bit-lt : (code : List ℕ) (d : ℕ) → codeBit code d < 2
@@ -158,7 +159,18 @@ code-cleared dims code size byte pad =
         (λ j lj. byte-bit code (i - 16) j lj ∙ ap (λ (x : ℕ). bit (getD code x 0) j) (omega arith))
         (λ j lj p. pad (8 * (i - 16) + j) p (omega arith)))
 
--- eight digits written out
-pub join-eight : (f : ℕ → ℕ) → join 1 8 f ≡ (f 0 + 2 * f 1) + 4 * (f 2 + 2 * f 3) + 16 * (f 4 + 2 * f 5) + 64 * (f 6 + 2 * f 7)
-unfolding join sumTo
-join-eight f = omega arith
+-- ---- a byte put together by a loop: one digit more, shifted to its place
+
+pub digit-more : (f : ℕ → ℕ) → ((i : ℕ) → f i < 2) → (i byte x : ℕ) → i < 8 → byte ≡ join 1 i f → x ≡ f i
+    → (byte + x * 2 ^ i % 2 ^ 8 ≡ join 1 (i + 1) f) × (byte + x * 2 ^ i % 2 ^ 8 < 2 ^ 8)
+digit-more f two i byte x l e g = (sum, rw sum (lt-of-lt-of-le (bits-lt (i + 1) f two) (pow-mono {j = 8} (omega arith))))
+  where
+    place : x * 2 ^ i % 2 ^ 8 ≡ f i * 2 ^ (1 * i)
+    place = ap (λ (x : ℕ). x * 2 ^ i % 2 ^ 8) g ∙ shl-exact 1 i 8 (two i) (omega arith) ∙ ap (λ (k : ℕ). f i * 2 ^ k) (sym (one-mul i))
+
+    sum : byte + x * 2 ^ i % 2 ^ 8 ≡ join 1 (i + 1) f
+    sum = ap₂ (λ (x y : ℕ). x + y) e place ∙ sym (join-more 1 i f)
+
+pub sign-lt : (v : List ℕ) (d : ℕ) → signClear v d < 2
+unfolding signClear
+sign-lt v d = omega arith

@@ -20,8 +20,8 @@ abbrev μ-loop : tie.MeasureT-loop
 loop-holds : tie.Need-loop-holds Inv-loop μ-loop
 loop-holds c = (zero-le, c .before .before .before .pre .2, below-none _)
 
-byte-requires : tie.Need-byte-requires Inv-loop μ-loop
-byte-requires c κs = omega arith
+code-byte-requires : tie.Need-code-byte-requires Inv-loop μ-loop
+code-byte-requires c κs = omega arith
 
 slice-write-code : tie.Need-slice-write-code Inv-loop μ-loop
 slice-write-code c = omega arith
@@ -39,7 +39,7 @@ loop-again c =
       omega arith,
       simp length-set (l .inv .1),
       filled-more (codeByte (a .dims) (λ k. getD (a .factors .now) k 0) (signClear (a .v .now))) (l .code) (l .i) _ (omega arith) (l .inv .2)
-          (c .byte .ensures),
+          (c .code-byte .ensures),
     )
 
 same-length : tie.Need-same-length Inv-loop μ-loop
@@ -60,7 +60,7 @@ encode-spec =
     Inv-loop
     μ-loop
     loop-holds
-    byte-requires
+    code-byte-requires
     slice-write-code
     add-i
     loop-less

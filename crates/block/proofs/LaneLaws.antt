@@ -21,9 +21,13 @@ pub lane-bit-lt : (block : List ℕ) (k d : ℕ) → laneBit block k d < 2
 unfolding laneBit
 lane-bit-lt block k d = bit-lt (laneNibble block k (d / 4)) (d % 4)
 
-laneBit-is : (block : List ℕ) (k d : ℕ) → laneBit block k d ≡ bit (laneNibble block k (d / 4)) (d % 4)
+-- bit j of the nibble of group g is dimension 4 g + j
+pub lane-bit-at : (block : List ℕ) (k g j : ℕ) → j < 4 → laneBit block k (4 * g + j) ≡ bit (laneNibble block k g) j
 unfolding laneBit
-laneBit-is block k d = refl
+lane-bit-at block k g j l =
+    let group : (4 * g + j) / 4 ≡ g = omega arith in
+    let digit : (4 * g + j) % 4 ≡ j = omega arith in
+    ap₂ (λ (a c : ℕ). bit (laneNibble block k a) c) group digit
 
 -- the halves of byte j of a group are the nibbles of lanes j and j + 16
 pub nibble-low : (block : List ℕ) (j g : ℕ) → j < 16 → laneNibble block j g ≡ getD block (512 + 16 * g + j) 0 % 16
@@ -43,7 +47,8 @@ nibble-high block j g h byte =
 
 -- ---- the bytes of a lane as a single code
 
-pub lane-factor : (dims : ℕ) (block : List ℕ) (k i : ℕ) → i < 16 → codeByte dims (laneFactor block k) (laneBit block k) i ≡ getD block (128 * (i / 4) + 4 * k + i % 4) 0
+pub lane-factor : (dims : ℕ) (block : List ℕ) (k i : ℕ) → i < 16
+    → codeByte dims (laneFactor block k) (laneBit block k) i ≡ getD block (128 * (i / 4) + 4 * k + i % 4) 0
 unfolding codeByte laneFactor
 lane-factor dims block k i l = rw (lt-ltb i 16 l)
 
@@ -59,17 +64,16 @@ lane-octet dims block k i y l e = rw (le-ltb i 16 l) (join-kept 8 dims (8 * x) y
     digits : (j : ℕ) → j < 8 → laneBit block k (8 * x + j) ≡ bit y j
     digits j h = ⊎-elim low high (lt-or-ge j 4)
       where
-        at : (d g b : ℕ) → d / 4 ≡ g → d % 4 ≡ b → laneBit block k d ≡ bit (laneNibble block k g) b
-        at d g b p q = laneBit-is block k d ∙ ap₂ (λ (a c : ℕ). bit (laneNibble block k a) c) p q
-
         low : j < 4 → laneBit block k (8 * x + j) ≡ bit y j
         low l4 =
-            at (8 * x + j) (2 * x) j (omega arith) (omega arith)
+            let at : 8 * x + j ≡ 4 * (2 * x) + j = omega arith in
+            ap (laneBit block k) at ∙ lane-bit-at block k (2 * x) j l4
             ∙ sym (bit-low 4 j (laneNibble block k (2 * x)) (laneNibble block k (2 * x + 1)) l4) ∙ ap (λ (z : ℕ). bit z j) (sym e)
 
         high : 4 ≤ j → laneBit block k (8 * x + j) ≡ bit y j
         high l4 =
+            let at : 8 * x + j ≡ 4 * (2 * x + 1) + (j - 4) = omega arith in
             let back : 4 + (j - 4) ≡ j = omega arith in
-            at (8 * x + j) (2 * x + 1) (j - 4) (omega arith) (omega arith)
+            ap (laneBit block k) at ∙ lane-bit-at block k (2 * x + 1) (j - 4) (omega arith)
             ∙ sym (bit-high 4 (j - 4) (laneNibble block k (2 * x)) (laneNibble block k (2 * x + 1)) (nibble-lt block k (2 * x)))
             ∙ ap₂ bit (sym e) back

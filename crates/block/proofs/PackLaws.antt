@@ -23,7 +23,8 @@ half-join : (f : ℕ → ℕ) → ((i : ℕ) → f i < 2) → (g : ℕ) → join
 half-join f two g =
     ⊎-elim
     (λ h. let e : g % 2 ≡ 0 = omega arith in
-    ap (λ (x : ℕ). join 1 8 f / 16 ^ x % 16) e ∙ omega (arith, join-halves f, bits-lt 4 f two) ∙ join-ext 1 4 f (λ i. f (4 * (g % 2) + i)) (λ i _. ap f (zero i e)))
+    ap (λ (x : ℕ). join 1 8 f / 16 ^ x % 16) e ∙ omega (arith, join-halves f, bits-lt 4 f two)
+    ∙ join-ext 1 4 f (λ i. f (4 * (g % 2) + i)) (λ i _. ap f (zero i e)))
     (λ h. let e : g % 2 ≡ 1 = omega arith in
     ap (λ (x : ℕ). join 1 8 f / 16 ^ x % 16) e ∙ omega (arith, join-halves f, bits-lt 4 f two, bits-lt 4 (λ i. f (4 + i)) (λ i. two (4 + i)))
     ∙ join-ext 1 4 (λ i. f (4 + i)) (λ i. f (4 * (g % 2) + i)) (λ i _. ap f (four i e)))

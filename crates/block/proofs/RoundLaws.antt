@@ -11,12 +11,13 @@ use lib.Seq.{take-all, take-append-le, drop-append-le, drop-at, getD-take}
 use borrow.Author.Tests.{lt-ltb, le-ltb}
 use Rattle.words.specs.Digits.{bit, join, kept}
 use Rattle.words.specs.Lists.{tabulate, joined}
-use Rattle.words.proofs.ListLaws.{joined-at, tabulate-at, tabulate-ext}
+use Rattle.words.proofs.ListLaws.{joined-at, tabulate-at, tabulate-ext, filled}
 use Rattle.words.proofs.DigitLaws.{lt-or-ge, kept-in, kept-lt, kept-ext, bits-lt, join-ext, bit-join}
 use Rattle.code.specs.Code.{codeSize, codeBit, codeByte, codeOf, clearedCode}
-use Rattle.code.proofs.CodeLaws.{code-bit-lt, code-ext, length-code, factor-of-code, bit-of-code}
-use Rattle.block.specs.Block.{blockGroups, blockSize, laneFactor, laneNibble, laneBit, laneCode, groupNibble, groupByte, blockByte, blockOf, codeAt, packedByte, packed, clearedBlock, lanesOf}
-use Rattle.block.proofs.LaneLaws.{lane-bit-lt, nibble-low, nibble-high}
+use Rattle.code.proofs.CodeLaws.{code-bit-lt, join-whole, code-ext, length-code, factor-of-code, bit-of-code, made-cleared}
+use Rattle.block.specs.Block.{blockGroups, blockSize, laneFactor, laneNibble, laneBit, laneCode, groupNibble, groupByte, blockByte, blockOf}
+use Rattle.block.specs.Block.{codeAt, packedByte, packed, clearedBlock, lanesOf}
+use Rattle.block.proofs.LaneLaws.{lane-bit-lt, lane-bit-at, nibble-lt, nibble-low, nibble-high}
 
 -- ---- a block made of factor bytes and bits
 
@@ -44,7 +45,8 @@ module _ (dims : ℕ) (f b : ℕ → ℕ → ℕ) where
     unfolding groupNibble
     group-nibble-lt g k = bits-lt 4 (λ i. kept dims (b k) (4 * g + i)) (nibble-two g k)
 
-    group-at : (g j : ℕ) → g < blockGroups dims → j < 16 → getD (blockOf dims f b) (512 + 16 * g + j) 0 ≡ groupNibble dims b g j + 16 * groupNibble dims b g (j + 16)
+    group-at : (g j : ℕ) → g < blockGroups dims → j < 16
+        → getD (blockOf dims f b) (512 + 16 * g + j) 0 ≡ groupNibble dims b g j + 16 * groupNibble dims b g (j + 16)
     unfolding blockOf groupByte
     group-at g j hg hj =
         let i = 512 + 16 * g + j in
@@ -98,8 +100,24 @@ block-ext dims f f′ b b′ ef eb = tabulate-ext (blockSize dims) (blockByte di
     group : (i : ℕ) → 512 ≤ i → blockByte dims f b i ≡ blockByte dims f′ b′ i
     group i l =
         byte-group dims f b i l
-        ∙ byte-ext dims b b′ ((i - 512) / 16) ((i - 512) % 16) (nibble ((i - 512) / 16) ((i - 512) % 16) (omega arith)) (nibble ((i - 512) / 16) ((i - 512) % 16 + 16) (omega arith))
+        ∙ byte-ext dims b b′ ((i - 512) / 16) ((i - 512) % 16) (nibble ((i - 512) / 16) ((i - 512) % 16) (omega arith))
+        (nibble ((i - 512) / 16) ((i - 512) % 16 + 16) (omega arith))
         ∙ sym (byte-group dims f′ b′ i l)
+
+factor-at : (block : List ℕ) (k i n : ℕ) → 128 * (i / 4) + 4 * k + i % 4 ≡ n → laneFactor block k i ≡ getD block n 0
+unfolding laneFactor
+factor-at block k i n e = ap (λ (x : ℕ). getD block x 0) e
+
+-- the nibble of a group of which the pad bits are 0
+nibble-whole : (dims : ℕ) (block : List ℕ) (g k : ℕ) → ((j : ℕ) → j < 4 → dims ≤ 4 * g + j → laneBit block k (4 * g + j) ≡ 0)
+    → groupNibble dims (laneBit block) g k ≡ laneNibble block k g
+unfolding groupNibble
+nibble-whole dims block g k pad =
+    join-whole 4 dims (4 * g) (laneNibble block k g) (laneBit block k) (nibble-lt block k g) (λ j l. lane-bit-at block k g j l) pad
+
+byte-of : (dims : ℕ) (b : ℕ → ℕ → ℕ) (g j : ℕ) → groupByte dims b g j ≡ groupNibble dims b g j + 16 * groupNibble dims b g (j + 16)
+unfolding groupByte
+byte-of dims b g j = refl
 
 -- ---- the round trip
 
@@ -126,7 +144,52 @@ unfolding packed clearedBlock laneCode
 packed-of-lanes dims block =
     block-ext dims (λ k i. getD (codeAt dims lanes k) i 0) (laneFactor block) (λ k. codeBit (codeAt dims lanes k)) (laneBit block)
     (λ k i h l. ap (λ (c : List ℕ). getD c i 0) (code-of-lanes dims block k h) ∙ factor-of-code dims (laneFactor block k) (laneBit block k) i l)
-    (λ k d h l. ap (λ (c : List ℕ). codeBit c d) (code-of-lanes dims block k h) ∙ bit-of-code dims (laneFactor block k) (laneBit block k) (lane-bit-lt block k) d l)
+    (λ k d h l. ap (λ (c : List ℕ). codeBit c d) (code-of-lanes dims block k h)
+    ∙ bit-of-code dims (laneFactor block k) (laneBit block k) (lane-bit-lt block k) d l)
   where
     lanes : List ℕ
     lanes = lanesOf dims block
+
+-- demand 2: lane k of a packed block is code k with its pad bits 0, and the lanes of a block, packed, are the block with its pad bits 0
+pub round-trip : (dims : ℕ)
+    → ((codes : List ℕ) (k : ℕ) → k < 32 → laneCode dims (packed dims codes) k ≡ clearedCode dims (codeAt dims codes k))
+    × ((block : List ℕ) → packed dims (lanesOf dims block) ≡ clearedBlock dims block)
+round-trip dims = (lane-of-packed dims, packed-of-lanes dims)
+
+-- so 32 codes that were made with pad bits 0, as encode makes them, come back as they are
+pub coded-back : (dims : ℕ) (f b : ℕ → ℕ → ℕ) → ((k d : ℕ) → b k d < 2) → (k : ℕ) → k < 32
+    → laneCode dims (packed dims (joined 32 (λ k. codeOf dims (f k) (b k)))) k ≡ codeOf dims (f k) (b k)
+unfolding codeAt
+coded-back dims f b two k h =
+    lane-of-packed dims (joined 32 (λ k. codeOf dims (f k) (b k))) k h
+    ∙ ap (clearedCode dims) (joined-at (codeSize dims) 32 k (λ k. codeOf dims (f k) (b k)) (λ k _. length-code dims (f k) (b k)) h)
+    ∙ made-cleared dims (f k) (b k) (two k)
+
+-- and a block whose pad bits are 0 is what `clearedBlock` leaves alone
+pub block-cleared : (dims : ℕ) (block : List ℕ) → length block ≡ blockSize dims → ((i : ℕ) → getD block i 0 < 256)
+    → ((k d : ℕ) → k < 32 → dims ≤ d → d < 4 * blockGroups dims → laneBit block k d ≡ 0) → clearedBlock dims block ≡ block
+unfolding clearedBlock blockOf
+block-cleared dims block size byte pad =
+    sym (filled (blockSize dims) (blockByte dims (laneFactor block) (laneBit block)) block size (λ i l. ⊎-elim (factor i) (group i l) (lt-or-ge i 512)))
+  where
+    factor : (i : ℕ) → i < 512 → getD block i 0 ≡ blockByte dims (laneFactor block) (laneBit block) i
+    factor i l = sym (byte-factor dims (laneFactor block) (laneBit block) i l ∙ factor-at block (i % 128 / 4) (4 * (i / 128) + i % 4) i (omega arith))
+
+    nibble : (g k : ℕ) → g < blockGroups dims → k < 32 → groupNibble dims (laneBit block) g k ≡ laneNibble block k g
+    nibble g k hg hk =
+        nibble-whole dims block g k (λ j l p. pad k (4 * g + j) hk p (omega arith))
+
+    group : (i : ℕ) → i < blockSize dims → 512 ≤ i → getD block i 0 ≡ blockByte dims (laneFactor block) (laneBit block) i
+    group i h l =
+        let g = (i - 512) / 16 in
+        let j = (i - 512) % 16 in
+        let at : 512 + 16 * g + j ≡ i = omega arith in
+        sym (byte-group dims (laneFactor block) (laneBit block) i l ∙ byte-of dims (laneBit block) g j
+        ∙ omega (
+          arith,
+          nibble g j (omega arith) (omega arith),
+          nibble g (j + 16) (omega arith) (omega arith),
+          nibble-low block j g (omega arith),
+          nibble-high block j g (omega arith) (byte (512 + 16 * g + j)),
+        )
+        ∙ ap (λ (x : ℕ). getD block x 0) at)

@@ -1,6 +1,7 @@
 // Module 5, the block of 32 codes: its public calls. The C functions of the crate lintelkite are these.
 ghost use mathlib.Core.Path.{_≡_};
 ghost use Rattle.block.specs.Calls.{sizeAnswer, packAnswer, laneAnswer};
+use words::ACCEPTED;
 use words::BAD_DIMS;
 use words::BAD_LENGTH;
 use words::MOST_DIMS;
@@ -20,8 +21,9 @@ pub fn block_size(dims: u32, out: &mut [u8]) -> u32
     if out.len() != 4 {
         return BAD_LENGTH;
     }
-    put_number(out, 512 + 16 * ((dims + 3) / 4));
-    0
+    let size = parts::size(dims as usize);
+    put_number(out, size as u32);
+    ACCEPTED
 }
 
 // The block of 32 codes laid end to end.
@@ -39,7 +41,7 @@ pub fn block_pack(dims: u32, codes: &[u8], block: &mut [u8]) -> u32
         return BAD_LENGTH;
     }
     parts::pack(codes, n, block);
-    0
+    ACCEPTED
 }
 
 // A lane as a single code.
@@ -60,5 +62,5 @@ pub fn block_lane(dims: u32, block: &[u8], lane: u32, code: &mut [u8]) -> u32
         return OUT_OF_RANGE;
     }
     parts::lane(block, n, lane as usize, code);
-    0
+    ACCEPTED
 }

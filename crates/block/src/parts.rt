@@ -57,8 +57,9 @@ fn put_group(codes: &[u8], dims: usize, g: usize, block: &mut [u8])
 {
     let mut j = 0usize;
     while j < 16 {
-        block[512 + 16 * g + j] = code_nibble(codes, dims, g, j)
-            + 16 * code_nibble(codes, dims, g, j + 16);
+        let low = code_nibble(codes, dims, g, j);
+        let high = code_nibble(codes, dims, g, j + 16);
+        block[512 + 16 * g + j] = low + 16 * high;
         j += 1;
     }
 }

@@ -3,17 +3,18 @@ use mathlib.Core.Path.{_≡_, refl, sym, ap, ap₂, _∙_}
 use Prim.Native.Nat.{ℕ, zero, suc, _+_, _-_, _*_, _/_, _%_, _^_, _<_, _≤_}
 use mathlib.Core.List.{List}
 use native.Mathlib.Omega.{arith}
-use native.Mathlib.Nat.{not-suc-le-zero, le-of-suc-le-suc, add-zero, zero-add}
+use native.Mathlib.Nat.{not-suc-le-zero, le-of-suc-le-suc, add-zero, zero-add, min-eq-left, mod-eq-of-lt, one-mul, lt-of-lt-of-le}
 use mathlib.Core.Logic.{⊎-elim}
 use lib.ListN.{length, getD, drop}
 use lib.Seq.{getD-drop}
+use lib.Pow.{shl-exact, pow-mono}
 use borrow.Author.Tests.{lt-ltb, le-ltb}
 use Rattle.words.specs.Bytes.{numAt}
-use Rattle.words.specs.Sums.{sumTo}
 use Rattle.words.specs.Digits.{bit, join, kept}
-use Rattle.words.proofs.ListLaws.{length-tabulate, tabulate-at, tabulate-ext}
-use Rattle.words.proofs.DigitLaws.{bit-lt, bit-low, bit-high, bit-join, lt-or-ge, kept-in, kept-ext, kept-lt, join-ext}
-use Rattle.code.specs.Code.{codeSize, codeWord, codeBit, wordsBit, codeByte, codeOf, clearedCode}
+use Rattle.words.proofs.ListLaws.{length-tabulate, tabulate-at, tabulate-ext, filled}
+use Rattle.words.proofs.DigitLaws.{bit-lt, bit-low, bit-high, bit-join, lt-or-ge, kept-in, kept-out, kept-ext, kept-lt, join-ext, join-kept, join-more, bits-lt}
+use Rattle.code.specs.Calls.{signClear}
+use Rattle.code.specs.Code.{codeWords, codeSize, codeWord, codeBit, wordsBit, codeByte, codeOf, clearedCode}
 
 pub code-bit-lt : (code : List ℕ) (d : ℕ) → codeBit code d < 2
 unfolding codeBit
@@ -69,6 +70,22 @@ byte-bit code x j l =
     let digit : (8 * x + j) % 8 ≡ j = omega arith in
     ap₂ (λ (a b : ℕ). bit (getD code (16 + a) 0) b) at digit
 
+-- n digits that are those of y below 2 ^ n, where the digits from dimension most on are 0, are y
+pub join-whole : (n most at y : ℕ) (b : ℕ → ℕ) → y < 2 ^ n → ((j : ℕ) → j < n → b (at + j) ≡ bit y j) → ((j : ℕ) → j < n → most ≤ at + j → b (at + j) ≡ 0)
+    → join 1 n (λ j. kept most b (at + j)) ≡ y
+join-whole n most at y b small digit pad =
+    join-ext 1 n (λ j. kept most b (at + j)) (λ j. kept (at + n) b (at + j)) (λ j l. ⊎-elim (inside j l) (outside j l) (lt-or-ge (at + j) most))
+    ∙ join-kept n (at + n) at y b digit ∙ ap (λ (k : ℕ). y % 2 ^ k) (min-eq-left (omega arith)) ∙ mod-eq-of-lt small
+  where
+    whole : (j : ℕ) → j < n → kept (at + n) b (at + j) ≡ b (at + j)
+    whole j l = kept-in (at + n) b (at + j) (omega arith)
+
+    inside : (j : ℕ) → j < n → at + j < most → kept most b (at + j) ≡ kept (at + n) b (at + j)
+    inside j l h = kept-in most b (at + j) h ∙ sym (whole j l)
+
+    outside : (j : ℕ) → j < n → most ≤ at + j → kept most b (at + j) ≡ kept (at + n) b (at + j)
+    outside j l h = kept-out most b (at + j) h ∙ sym (whole j l ∙ pad j l h)
+
 -- ---- a code made of factor bytes and bits
 
 pub byte-factor : (dims : ℕ) (f b : ℕ → ℕ) (i : ℕ) → i < 16 → codeByte dims f b i ≡ f i
@@ -102,15 +119,58 @@ pub factor-of-code : (dims : ℕ) (f b : ℕ → ℕ) (i : ℕ) → i < 16 → g
 unfolding codeOf
 factor-of-code dims f b i l = tabulate-at (codeSize dims) (codeByte dims f b) i (omega arith) ∙ byte-factor dims f b i l
 
-pub bit-of-code : (dims : ℕ) (f b : ℕ → ℕ) → ((d : ℕ) → b d < 2) → (d : ℕ) → d < dims → codeBit (codeOf dims f b) d ≡ b d
+digit-of-code : (dims : ℕ) (f b : ℕ → ℕ) → ((d : ℕ) → b d < 2) → (d : ℕ) → d < 64 * codeWords dims → codeBit (codeOf dims f b) d ≡ kept dims b d
 unfolding codeBit codeOf
-bit-of-code dims f b two d l =
+digit-of-code dims f b two d l =
     let back : 8 * (16 + d / 8 - 16) + d % 8 ≡ d = omega arith in
     ap (λ (x : ℕ). bit x (d % 8)) (tabulate-at (codeSize dims) (codeByte dims f b) (16 + d / 8) (omega arith) ∙ byte-digits dims f b (16 + d / 8) (omega arith))
     ∙ bit-join 8 (d % 8) (λ j. kept dims b (8 * (16 + d / 8 - 16) + j)) (λ j. kept-lt dims b two (8 * (16 + d / 8 - 16) + j)) (omega arith)
-    ∙ ap (kept dims b) back ∙ kept-in dims b d l
+    ∙ ap (kept dims b) back
 
--- eight digits written out
-pub join-eight : (f : ℕ → ℕ) → join 1 8 f ≡ (f 0 + 2 * f 1) + 4 * (f 2 + 2 * f 3) + 16 * (f 4 + 2 * f 5) + 64 * (f 6 + 2 * f 7)
-unfolding join sumTo
-join-eight f = omega arith
+pub bit-of-code : (dims : ℕ) (f b : ℕ → ℕ) → ((d : ℕ) → b d < 2) → (d : ℕ) → d < dims → codeBit (codeOf dims f b) d ≡ b d
+bit-of-code dims f b two d l = digit-of-code dims f b two d (omega arith) ∙ kept-in dims b d l
+
+-- its pad bits are 0
+pub pad-of-code : (dims : ℕ) (f b : ℕ → ℕ) → ((d : ℕ) → b d < 2) → (d : ℕ) → dims ≤ d → d < 64 * codeWords dims → codeBit (codeOf dims f b) d ≡ 0
+pad-of-code dims f b two d l h = digit-of-code dims f b two d h ∙ kept-out dims b d l
+
+-- ---- a code with its pad bits 0
+
+-- a code that was made so is left alone
+pub made-cleared : (dims : ℕ) (f b : ℕ → ℕ) → ((d : ℕ) → b d < 2) → clearedCode dims (codeOf dims f b) ≡ codeOf dims f b
+unfolding clearedCode
+made-cleared dims f b two =
+    code-ext dims (λ i. getD (codeOf dims f b) i 0) f (codeBit (codeOf dims f b)) b (factor-of-code dims f b) (bit-of-code dims f b two)
+
+-- and so is any code whose pad bits are 0
+pub code-cleared : (dims : ℕ) (code : List ℕ) → length code ≡ codeSize dims → ((i : ℕ) → getD code i 0 < 256)
+    → ((d : ℕ) → dims ≤ d → d < 64 * codeWords dims → codeBit code d ≡ 0) → clearedCode dims code ≡ code
+unfolding clearedCode codeOf
+code-cleared dims code size byte pad =
+    sym (filled (codeSize dims) (codeByte dims (λ i. getD code i 0) (codeBit code)) code size (λ i l. ⊎-elim (factor i) (digits i l) (lt-or-ge i 16)))
+  where
+    factor : (i : ℕ) → i < 16 → getD code i 0 ≡ codeByte dims (λ i. getD code i 0) (codeBit code) i
+    factor i l = sym (byte-factor dims (λ i. getD code i 0) (codeBit code) i l)
+
+    digits : (i : ℕ) → i < codeSize dims → 16 ≤ i → getD code i 0 ≡ codeByte dims (λ i. getD code i 0) (codeBit code) i
+    digits i h l =
+        sym (byte-digits dims (λ i. getD code i 0) (codeBit code) i l
+        ∙ join-whole 8 dims (8 * (i - 16)) (getD code i 0) (codeBit code) (byte i)
+        (λ j lj. byte-bit code (i - 16) j lj ∙ ap (λ (x : ℕ). bit (getD code x 0) j) (omega arith))
+        (λ j lj p. pad (8 * (i - 16) + j) p (omega arith)))
+
+-- ---- a byte put together by a loop: one digit more, shifted to its place
+
+pub digit-more : (f : ℕ → ℕ) → ((i : ℕ) → f i < 2) → (i byte x : ℕ) → i < 8 → byte ≡ join 1 i f → x ≡ f i
+    → (byte + x * 2 ^ i % 2 ^ 8 ≡ join 1 (i + 1) f) × (byte + x * 2 ^ i % 2 ^ 8 < 2 ^ 8)
+digit-more f two i byte x l e g = (sum, rw sum (lt-of-lt-of-le (bits-lt (i + 1) f two) (pow-mono {j = 8} (omega arith))))
+  where
+    place : x * 2 ^ i % 2 ^ 8 ≡ f i * 2 ^ (1 * i)
+    place = ap (λ (x : ℕ). x * 2 ^ i % 2 ^ 8) g ∙ shl-exact 1 i 8 (two i) (omega arith) ∙ ap (λ (k : ℕ). f i * 2 ^ k) (sym (one-mul i))
+
+    sum : byte + x * 2 ^ i % 2 ^ 8 ≡ join 1 (i + 1) f
+    sum = ap₂ (λ (x y : ℕ). x + y) e place ∙ sym (join-more 1 i f)
+
+pub sign-lt : (v : List ℕ) (d : ℕ) → signClear v d < 2
+unfolding signClear
+sign-lt v d = omega arith

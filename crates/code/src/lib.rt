@@ -1,6 +1,7 @@
 // Module 4, the single code: its public calls. The C functions of the crate lintelkite are these.
 ghost use mathlib.Core.Path.{_≡_};
 ghost use Rattle.code.specs.Calls.{sizeAnswer, encodeAnswer, bitAnswer};
+use words::ACCEPTED;
 use words::BAD_DIMS;
 use words::BAD_LENGTH;
 use words::MISSING;
@@ -22,8 +23,9 @@ pub fn code_size(dims: u32, out: &mut [u8]) -> u32
     if out.len() != 4 {
         return BAD_LENGTH;
     }
-    put_number(out, 16 + 8 * ((dims + 63) / 64));
-    0
+    let size = parts::size(dims as usize);
+    put_number(out, size as u32);
+    ACCEPTED
 }
 
 // The four factors, bit for bit, and the signs of a vector of dims floats.
@@ -47,7 +49,7 @@ pub fn code_encode(dims: u32, factors: &[u8], vector: &[u8], code: &mut [u8]) ->
         return MISSING;
     }
     parts::encode(n, factors, vector, code);
-    0
+    ACCEPTED
 }
 
 // The bit of a dimension.
@@ -67,5 +69,5 @@ pub fn code_bit(dims: u32, code: &[u8], index: u32, out: &mut [u8]) -> u32
         return OUT_OF_RANGE;
     }
     put_number(out, parts::bit(code, index as usize));
-    0
+    ACCEPTED
 }

@@ -1,59 +1,75 @@
 -- `block::block_lane` meets its contract. Assumes nothing.
 use mathlib.Core.Path.{_≡_, sym, ap, _∙_}
+use Prim.Native.Nat.{ℕ}
+use mathlib.Core.List.{List}
+use denote.Ref.{now}
 use native.Mathlib.Omega.{arith}
-use borrow.Author.Tests.{lt-ltb, le-ltb}
-use Rattle.words.proofs.RefusalLaws.{few-dims, sized, unsized, accepts, refuses}
+use Rattle.words.specs.Limits.{mostDims}
+use Rattle.words.proofs.RefusalLaws.{few-dims, sized, unsized, first-bad, second-bad, none-bad}
 use Rattle.code.specs.Code.{codeSize}
 use Rattle.block.specs.Block.{blockSize}
-use Rattle.block.specs.Calls.{laneAnswer, laneNumber}
+use Rattle.block.proofs.CallLaws.{lane-dims, lane-length, lane-range, lane-accepted}
 use borrow.Author.Needs.{needs}
 use Rattle.block.proofs.block_lane.Statement.{statement}
 use Rattle.block.proofs.block_lane.Tie as tie
+use Rattle.code.proofs.parts.size.Reads as parts-size-reads′
 
 bad-dims-requires : tie.Need-bad-dims-requires
 bad-dims-requires c κs = search needs
 
 returns : tie.Need-returns
-unfolding laneAnswer laneNumber
-returns c = refuses _ 0 _ _ (simp (sym (c .before .bad-dims .ensures) ∙ c .if1 .taken))
+returns c =
+    let a = c .before .before .before .before .args in lane-dims (a .dims) (now (a .block)) (a .lane) (now (a .code))
+    (sym (c .before .bad-dims .ensures) ∙ c .if1 .taken)
 
 size-requires : tie.Need-size-requires
-size-requires c κs = few-dims _ _ (sym (c .before .bad-dims .ensures) ∙ c .if1 .left)
+size-requires c κs = few-dims mostDims _ (sym (c .before .bad-dims .ensures) ∙ c .if1 .left)
 
 returns-2 : tie.Need-returns-2
-unfolding laneAnswer laneNumber
 returns-2 c =
     let a = c .before .before .before .before .before .before .args in
-    refuses _ 2 _ _ (simp (sym (c .before .before .before .bad-dims .ensures) ∙ c .before .before .if1 .left, unsized (a .block .now) (blockSize (a .dims)) (λ e. c .if2 .taken (e ∙ sym (c .before .size .ensures)))))
+    let d = sym (c .before .before .before .bad-dims .ensures) ∙ c .before .before .if1 .left in
+    lane-length (a .dims) (now (a .block)) (a .lane) (now (a .code)) d
+    (first-bad _ _ (unsized (now (a .block)) (blockSize (a .dims)) (λ e. c .if2 .taken (e ∙ sym (c .before .size .ensures)))))
 
 size-requires-2 : tie.Need-size-requires-2
-size-requires-2 c κs = few-dims _ _ (sym (c .before .before .before .bad-dims .ensures) ∙ c .before .before .if1 .left)
+size-requires-2 c κs = few-dims mostDims _ (sym (c .before .before .before .bad-dims .ensures) ∙ c .before .before .if1 .left)
 
 returns-3 : tie.Need-returns-3
-unfolding laneAnswer laneNumber
 returns-3 c =
     let a = c .before .before .before .before .before .before .before .before .args in
-    refuses _ 2 _ _ (simp (sym (c .before .before .before .before .before .bad-dims .ensures) ∙ c .before .before .before .before .if1 .left, sized (a .block .now) (blockSize (a .dims)) (c .before .before .if2 .left ∙ c .before .before .before .size .ensures), unsized (a .code .now) (codeSize (a .dims)) (λ e. c .if3 .taken (e ∙ sym (c .before .size2 .ensures)))))
+    let d = sym (c .before .before .before .before .before .bad-dims .ensures) ∙ c .before .before .before .before .if1 .left in
+    let b = sized (now (a .block)) (blockSize (a .dims)) (c .before .before .if2 .left ∙ c .before .before .before .size .ensures) in
+    lane-length (a .dims) (now (a .block)) (a .lane) (now (a .code)) d
+    (second-bad _ _ b (unsized (now (a .code)) (codeSize (a .dims)) (λ e. c .if3 .taken (e ∙ sym (c .before .size2 .ensures)))))
 
 returns-4 : tie.Need-returns-4
-unfolding laneAnswer laneNumber
 returns-4 c =
     let a = c .before .before .before .before .before .before .before .before .before .args in
-    refuses _ 5 _ _ (simp (sym (c .before .before .before .before .before .before .bad-dims .ensures) ∙ c .before .before .before .before .before .if1 .left, sized (a .block .now) (blockSize (a .dims)) (c .before .before .before .if2 .left ∙ c .before .before .before .before .size .ensures), sized (a .code .now) (codeSize (a .dims)) (c .before .if3 .left ∙ c .before .before .size2 .ensures), lt-ltb _ _ (c .if4 .taken)))
+    let d = sym (c .before .before .before .before .before .before .bad-dims .ensures) ∙ c .before .before .before .before .before .if1 .left in
+    let b = sized (now (a .block)) (blockSize (a .dims)) (c .before .before .before .if2 .left ∙ c .before .before .before .before .size .ensures) in
+    let s = sized (now (a .code)) (codeSize (a .dims)) (c .before .if3 .left ∙ c .before .before .size2 .ensures) in
+    lane-range (a .dims) (now (a .block)) (a .lane) (now (a .code)) d (none-bad _ _ b s) (c .if4 .taken)
 
 lane-requires : tie.Need-lane-requires
 lane-requires c κs =
-    (few-dims _ _ (sym (c .before .before .before .before .before .before .before .bad-dims .ensures) ∙ c .before .before .before .before .before .before .if1 .left), omega arith, c .before .before .if3 .left ∙ c .before .before .before .size2 .ensures)
+    let d = sym (c .before .before .before .before .before .before .before .bad-dims .ensures) ∙ c .before .before .before .before .before .before .if1 .left in
+    (few-dims mostDims _ d, omega arith, c .before .before .if3 .left ∙ c .before .before .before .size2 .ensures)
 
 same-length : tie.Need-same-length
 same-length c = search needs
 
 returns-5 : tie.Need-returns-5
-unfolding laneAnswer laneNumber
 returns-5 c =
     let a = c .before .before .before .before .before .before .before .before .before .before .before .before .before .args in
-    accepts _ _ _ _ (simp (sym (c .before .before .before .before .before .before .before .before .before .before .bad-dims .ensures) ∙ c .before .before .before .before .before .before .before .before .before .if1 .left, sized (a .block .now) (blockSize (a .dims)) (c .before .before .before .before .before .before .before .if2 .left ∙ c .before .before .before .before .before .before .before .before .size .ensures), sized (a .code .now) (codeSize (a .dims)) (c .before .before .before .before .before .if3 .left ∙ c .before .before .before .before .before .before .size2 .ensures), le-ltb _ _ (c .before .before .before .before .if4 .left)))
-    (c .before .before .lane .ensures)
+    let d = sym (c .before .before .before .before .before .before .before .before .before .before .bad-dims .ensures)
+    ∙ c .before .before .before .before .before .before .before .before .before .if1 .left in
+    let b = sized (now (a .block)) (blockSize (a .dims)) (c .before .before .before .before .before .before .before .if2 .left
+    ∙ c .before .before .before .before .before .before .before .before .size .ensures) in
+    let s = sized (now (a .code)) (codeSize (a .dims)) (c .before .before .before .before .before .if3 .left
+    ∙ c .before .before .before .before .before .before .size2 .ensures) in
+    ap (λ (s : List ℕ). (0, s)) (c .before .before .lane .ensures)
+    ∙ lane-accepted (a .dims) (now (a .block)) (a .lane) (now (a .code)) d (none-bad _ _ b s) (c .before .before .before .before .if4 .left)
 
 pub block-lane-spec : {M : Type 1} → statement M
 block-lane-spec =

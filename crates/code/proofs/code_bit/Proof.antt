@@ -1,11 +1,14 @@
 -- `code::code_bit` meets its contract. Assumes nothing.
-use Rattle.code.specs.Code.{codeSize}
-use mathlib.Core.Path.{_≡_, sym, ap, _∙_}
+use mathlib.Core.Path.{sym, ap, _∙_}
+use Prim.Native.Nat.{ℕ}
+use mathlib.Core.List.{List}
+use denote.Ref.{now}
 use native.Mathlib.Omega.{arith}
-use borrow.Author.Tests.{le-leb, lt-leb}
 use Rattle.words.specs.Bytes.{bytesOf}
-use Rattle.words.proofs.RefusalLaws.{few-dims, sized, unsized, accepts, refuses}
-use Rattle.code.specs.Calls.{bitAnswer, bitNumber}
+use Rattle.words.specs.Limits.{mostDims}
+use Rattle.words.proofs.RefusalLaws.{few-dims, sized, unsized, first-bad, second-bad, none-bad}
+use Rattle.code.specs.Code.{codeSize}
+use Rattle.code.proofs.CallLaws.{bit-dims, bit-length, bit-range, bit-accepted}
 use borrow.Author.Needs.{needs}
 use Rattle.code.proofs.code_bit.Statement.{statement}
 use Rattle.code.proofs.code_bit.Tie as tie
@@ -14,32 +17,38 @@ bad-dims-requires : tie.Need-bad-dims-requires
 bad-dims-requires c κs = search needs
 
 returns : tie.Need-returns
-unfolding bitAnswer bitNumber
-returns c = refuses _ 0 _ _ (simp (sym (c .before .bad-dims .ensures) ∙ c .if1 .taken))
+returns c =
+    let a = c .before .before .before .before .args in bit-dims (a .dims) (now (a .code)) (a .index) (now (a .out))
+    (sym (c .before .bad-dims .ensures) ∙ c .if1 .taken)
 
 size-requires : tie.Need-size-requires
-size-requires c κs = few-dims _ _ (sym (c .before .bad-dims .ensures) ∙ c .if1 .left)
+size-requires c κs = few-dims mostDims _ (sym (c .before .bad-dims .ensures) ∙ c .if1 .left)
 
 returns-2 : tie.Need-returns-2
-unfolding bitAnswer bitNumber
 returns-2 c =
     let a = c .before .before .before .before .before .before .args in
-    refuses _ 2 _ _ (simp (sym (c .before .before .before .bad-dims .ensures) ∙ c .before .before .if1 .left, unsized (a .code .now) (codeSize (a .dims)) (λ e. c .if2 .taken (e ∙ sym (c .before .size .ensures)))))
+    let d = sym (c .before .before .before .bad-dims .ensures) ∙ c .before .before .if1 .left in
+    bit-length (a .dims) (now (a .code)) (a .index) (now (a .out)) d
+    (first-bad _ _ (unsized (now (a .code)) (codeSize (a .dims)) (λ e. c .if2 .taken (e ∙ sym (c .before .size .ensures)))))
 
 returns-3 : tie.Need-returns-3
-unfolding bitAnswer bitNumber
 returns-3 c =
     let a = c .before .before .before .before .before .before .before .args in
-    refuses _ 2 _ _ (simp (sym (c .before .before .before .before .bad-dims .ensures) ∙ c .before .before .before .if1 .left, sized (a .code .now) (codeSize (a .dims)) (c .before .if2 .left ∙ c .before .before .size .ensures), unsized (a .out .now) 4 (c .if3 .taken)))
+    let d = sym (c .before .before .before .before .bad-dims .ensures) ∙ c .before .before .before .if1 .left in
+    bit-length (a .dims) (now (a .code)) (a .index) (now (a .out)) d
+    (second-bad _ _ (sized (now (a .code)) (codeSize (a .dims)) (c .before .if2 .left ∙ c .before .before .size .ensures))
+    (unsized (now (a .out)) 4 (c .if3 .taken)))
 
 returns-4 : tie.Need-returns-4
-unfolding bitAnswer bitNumber
 returns-4 c =
     let a = c .before .before .before .before .before .before .before .before .args in
-    refuses _ 5 _ _ (simp (sym (c .before .before .before .before .before .bad-dims .ensures) ∙ c .before .before .before .before .if1 .left, sized (a .code .now) (codeSize (a .dims)) (c .before .before .if2 .left ∙ c .before .before .before .size .ensures), sized (a .out .now) 4 (c .before .if3 .left), le-leb _ _ (c .if4 .taken)))
+    let d = sym (c .before .before .before .before .before .bad-dims .ensures) ∙ c .before .before .before .before .if1 .left in
+    let l = c .before .before .if2 .left ∙ c .before .before .before .size .ensures in
+    bit-range (a .dims) (now (a .code)) (a .index) (now (a .out)) d
+    (none-bad _ _ (sized (now (a .code)) (codeSize (a .dims)) l) (sized (now (a .out)) 4 (c .before .if3 .left))) (c .if4 .taken)
 
 bit-requires : tie.Need-bit-requires
-bit-requires c κs = omega (arith, few-dims _ _ (sym (c .before .before .before .before .before .before .bad-dims .ensures) ∙ c .before .before .before .before .before .if1 .left))
+bit-requires c κs = omega (arith, c .before .before .before .if2 .left, c .before .before .before .before .size .ensures)
 
 put-number-requires : tie.Need-put-number-requires
 put-number-requires c κs = search needs
@@ -48,11 +57,16 @@ same-length : tie.Need-same-length
 same-length c = search needs
 
 returns-5 : tie.Need-returns-5
-unfolding bitAnswer bitNumber
 returns-5 c =
     let a = c .before .before .before .before .before .before .before .before .before .before .before .before .before .args in
-    accepts _ _ _ _ (simp (sym (c .before .before .before .before .before .before .before .before .before .before .bad-dims .ensures) ∙ c .before .before .before .before .before .before .before .before .before .if1 .left, sized (a .code .now) (codeSize (a .dims)) (c .before .before .before .before .before .before .before .if2 .left ∙ c .before .before .before .before .before .before .before .before .size .ensures), sized (a .out .now) 4 (c .before .before .before .before .before .before .if3 .left), lt-leb _ _ (c .before .before .before .before .before .if4 .left)))
-    (c .before .before .put-number .ensures ∙ ap (bytesOf 4) (c .before .before .before .bit .ensures))
+    let d = sym (c .before .before .before .before .before .before .before .before .before .before .bad-dims .ensures)
+    ∙ c .before .before .before .before .before .before .before .before .before .if1 .left in
+    let l = c .before .before .before .before .before .before .before .if2 .left
+    ∙ c .before .before .before .before .before .before .before .before .size .ensures in
+    ap (λ (s : List ℕ). (0, s)) (c .before .before .put-number .ensures ∙ ap (bytesOf 4) (c .before .before .before .bit .ensures))
+    ∙ bit-accepted (a .dims) (now (a .code)) (a .index) (now (a .out)) d
+    (none-bad _ _ (sized (now (a .code)) (codeSize (a .dims)) l) (sized (now (a .out)) 4 (c .before .before .before .before .before .before .if3 .left)))
+    (c .before .before .before .before .before .if4 .left)
 
 pub code-bit-spec : {M : Type 1} → statement M
 code-bit-spec =

@@ -1,8 +1,13 @@
 -- `code::code_size` meets its contract. Assumes nothing.
-use mathlib.Core.Path.{sym, _∙_}
-use native.Mathlib.Omega.{arith}
-use Rattle.words.specs.Refusals.{sizeAnswer, sizeNumber}
-use Rattle.words.proofs.RefusalLaws.{few-dims, sized, unsized, accepts, refuses}
+use mathlib.Core.Path.{sym, ap, _∙_}
+use Prim.Native.Nat.{ℕ}
+use mathlib.Core.List.{List}
+use denote.Ref.{now}
+use Rattle.words.specs.Bytes.{bytesOf}
+use Rattle.words.specs.Limits.{mostDims}
+use Rattle.words.proofs.RefusalLaws.{few-dims, sized, unsized}
+use Rattle.code.specs.Code.{codeSize}
+use Rattle.code.proofs.CallLaws.{size-dims, size-length, size-accepted}
 use borrow.Author.Needs.{needs}
 use Rattle.code.proofs.code_size.Statement.{statement}
 use Rattle.code.proofs.code_size.Tie as tie
@@ -11,21 +16,20 @@ bad-dims-requires : tie.Need-bad-dims-requires
 bad-dims-requires c κs = search needs
 
 returns : tie.Need-returns
-unfolding sizeAnswer sizeNumber
-returns c = refuses _ 0 _ _ (simp (sym (c .before .bad-dims .ensures) ∙ c .if1 .taken))
+returns c = let a = c .before .before .before .args in size-dims (a .dims) (codeSize (a .dims)) (now (a .out))
+    (sym (c .before .bad-dims .ensures) ∙ c .if1 .taken)
 
 returns-2 : tie.Need-returns-2
-unfolding sizeAnswer sizeNumber
-returns-2 c = refuses _ 2 _ _ (simp (sym (c .before .before .bad-dims .ensures) ∙ c .before .if1 .left, unsized (c .before .before .before .before .args .out .now) 4 (c .if2 .taken)))
+returns-2 c =
+    let a = c .before .before .before .before .args in
+    let d = sym (c .before .before .bad-dims .ensures) ∙ c .before .if1 .left in
+    size-length (a .dims) (codeSize (a .dims)) (now (a .out)) d (unsized (now (a .out)) 4 (c .if2 .taken))
 
-add-put-number : tie.Need-add-put-number
-add-put-number c = omega (arith, few-dims _ _ (sym (c .before .before .before .bad-dims .ensures) ∙ c .before .before .if1 .left))
+size-requires : tie.Need-size-requires
+size-requires c κs = few-dims mostDims _ (sym (c .before .before .bad-dims .ensures) ∙ c .before .if1 .left)
 
-mul-put-number : tie.Need-mul-put-number
-mul-put-number c = search needs
-
-add-put-number-2 : tie.Need-add-put-number-2
-add-put-number-2 c = search needs
+cast-put-number : tie.Need-cast-put-number
+cast-put-number c = search needs
 
 put-number-requires : tie.Need-put-number-requires
 put-number-requires c κs = search needs
@@ -34,8 +38,11 @@ same-length : tie.Need-same-length
 same-length c = search needs
 
 returns-3 : tie.Need-returns-3
-unfolding sizeAnswer sizeNumber
-returns-3 c = accepts _ _ _ _ (simp (sym (c .before .before .before .before .before .before .bad-dims .ensures) ∙ c .before .before .before .before .before .if1 .left, sized (c .before .before .before .before .before .before .before .before .args .out .now) 4 (c .before .before .before .before .if2 .left))) (c .before .before .put-number .ensures)
+returns-3 c =
+    let a = c .before .before .before .before .before .before .before .before .before .args in
+    let d = sym (c .before .before .before .before .before .before .before .bad-dims .ensures) ∙ c .before .before .before .before .before .before .if1 .left in
+    ap (λ (s : List ℕ). (0, s)) (c .before .before .put-number .ensures ∙ ap (bytesOf 4) (c .before .before .before .before .size .ensures))
+    ∙ size-accepted (a .dims) (codeSize (a .dims)) (now (a .out)) d (sized (now (a .out)) 4 (c .before .before .before .before .before .if2 .left))
 
 pub code-size-spec : {M : Type 1} → statement M
 code-size-spec =
@@ -44,9 +51,8 @@ code-size-spec =
     bad-dims-requires
     returns
     returns-2
-    add-put-number
-    mul-put-number
-    add-put-number-2
+    size-requires
+    cast-put-number
     put-number-requires
     same-length
     returns-3)

@@ -12,7 +12,8 @@ use Rattle.block.proofs.parts.lane.Statement.{statement}
 use Rattle.block.proofs.parts.lane.Tie as tie
 
 abbrev Inv-loop : tie.InvT-loop
-Inv-loop block dims k code₀ n i₀ code i = (i ≤ length code₀) × (length code ≡ codeSize dims) × ((j : ℕ) → j < i → getD code j 0 ≡ codeByte dims (laneFactor block k) (laneBit block k) j)
+Inv-loop block dims k code₀ n i₀ code i = (i ≤ length code₀) × (length code ≡ codeSize dims)
+    × ((j : ℕ) → j < i → getD code j 0 ≡ codeByte dims (laneFactor block k) (laneBit block k) j)
 
 abbrev μ-loop : tie.MeasureT-loop
 μ-loop block dims k code₀ n i₀ code i = length code₀ - i
@@ -38,7 +39,8 @@ loop-again c =
     let l = c .before .before .loop in (
       omega arith,
       simp length-set (l .inv .1),
-      filled-more (codeByte (a .dims) (laneFactor (a .block .now) (a .k)) (laneBit (a .block .now) (a .k))) (l .code) (l .i) _ (omega arith) (l .inv .2) (c .lane-byte .ensures),
+      filled-more (codeByte (a .dims) (laneFactor (a .block .now) (a .k)) (laneBit (a .block .now) (a .k))) (l .code) (l .i) _ (omega arith) (l .inv .2)
+          (c .lane-byte .ensures),
     )
 
 same-length : tie.Need-same-length Inv-loop μ-loop
@@ -49,7 +51,8 @@ unfolding laneCode codeOf
 returns c =
     let a = c .before .before .before .before .args in
     let l = c .before .loop in
-    filled (codeSize (a .dims)) (codeByte (a .dims) (laneFactor (a .block .now) (a .k)) (laneBit (a .block .now) (a .k))) (l .code) (l .inv .1) (λ i h. l .inv .2 i (omega arith))
+    filled (codeSize (a .dims)) (codeByte (a .dims) (laneFactor (a .block .now) (a .k)) (laneBit (a .block .now) (a .k))) (l .code) (l .inv .1)
+    (λ i h. l .inv .2 i (omega arith))
 
 pub lane-spec : {M : Type 1} → statement M
 lane-spec =

@@ -10,7 +10,8 @@ use Rattle.block.proofs.parts.pack.Statement.{statement}
 use Rattle.block.proofs.parts.pack.Tie as tie
 
 abbrev Inv-loop : tie.InvT-loop
-Inv-loop codes dims block₀ n g₀ block g = (g ≤ blockGroups dims) × (length block ≡ blockSize dims) × ((i : ℕ) → i < 512 + 16 * g → getD block i 0 ≡ packedByte dims codes i)
+Inv-loop codes dims block₀ n g₀ block g = (g ≤ blockGroups dims) × (length block ≡ blockSize dims)
+    × ((i : ℕ) → i < 512 + 16 * g → getD block i 0 ≡ packedByte dims codes i)
 
 abbrev μ-loop : tie.MeasureT-loop
 μ-loop codes dims block₀ n g₀ block g = blockGroups dims - g
@@ -34,7 +35,8 @@ loop-less : tie.Need-loop-less Inv-loop μ-loop
 loop-less c = omega arith
 
 loop-again : tie.Need-loop-again Inv-loop μ-loop
-loop-again c = let l = c .before .before .before .before .before .loop in (omega arith, c .before .before .put-group .kept .1 .1 .1 .0 ∙ l .inv .1, λ i h. c .before .before .put-group .ensures i (omega arith))
+loop-again c = let l = c .before .before .before .before .before .loop in
+    (omega arith, c .before .before .put-group .kept .1 .1 .1 .0 ∙ l .inv .1, λ i h. c .before .before .put-group .ensures i (omega arith))
 
 same-length : tie.Need-same-length Inv-loop μ-loop
 same-length c = search needs

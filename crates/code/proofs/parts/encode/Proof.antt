@@ -11,7 +11,8 @@ use Rattle.code.proofs.parts.encode.Statement.{statement}
 use Rattle.code.proofs.parts.encode.Tie as tie
 
 abbrev Inv-loop : tie.InvT-loop
-Inv-loop dims factors v code₀ n i₀ code i = (i ≤ length code₀) × (length code ≡ codeSize dims) × ((j : ℕ) → j < i → getD code j 0 ≡ codeByte dims (λ k. getD factors k 0) (signClear v) j)
+Inv-loop dims factors v code₀ n i₀ code i = (i ≤ length code₀) × (length code ≡ codeSize dims)
+    × ((j : ℕ) → j < i → getD code j 0 ≡ codeByte dims (λ k. getD factors k 0) (signClear v) j)
 
 abbrev μ-loop : tie.MeasureT-loop
 μ-loop dims factors v code₀ n i₀ code i = length code₀ - i
@@ -19,8 +20,8 @@ abbrev μ-loop : tie.MeasureT-loop
 loop-holds : tie.Need-loop-holds Inv-loop μ-loop
 loop-holds c = (zero-le, c .before .before .before .pre .2, below-none _)
 
-byte-requires : tie.Need-byte-requires Inv-loop μ-loop
-byte-requires c κs = omega arith
+code-byte-requires : tie.Need-code-byte-requires Inv-loop μ-loop
+code-byte-requires c κs = omega arith
 
 slice-write-code : tie.Need-slice-write-code Inv-loop μ-loop
 slice-write-code c = omega arith
@@ -37,7 +38,8 @@ loop-again c =
     let l = c .before .before .loop in (
       omega arith,
       simp length-set (l .inv .1),
-      filled-more (codeByte (a .dims) (λ k. getD (a .factors .now) k 0) (signClear (a .v .now))) (l .code) (l .i) _ (omega arith) (l .inv .2) (c .byte .ensures),
+      filled-more (codeByte (a .dims) (λ k. getD (a .factors .now) k 0) (signClear (a .v .now))) (l .code) (l .i) _ (omega arith) (l .inv .2)
+          (c .code-byte .ensures),
     )
 
 same-length : tie.Need-same-length Inv-loop μ-loop
@@ -48,7 +50,8 @@ unfolding codeOf
 returns c =
     let a = c .before .before .before .before .before .args in
     let l = c .before .loop in
-    filled (codeSize (a .dims)) (codeByte (a .dims) (λ k. getD (a .factors .now) k 0) (signClear (a .v .now))) (l .code) (l .inv .1) (λ i h. l .inv .2 i (omega arith))
+    filled (codeSize (a .dims)) (codeByte (a .dims) (λ k. getD (a .factors .now) k 0) (signClear (a .v .now))) (l .code) (l .inv .1)
+    (λ i h. l .inv .2 i (omega arith))
 
 pub encode-spec : {M : Type 1} → statement M
 encode-spec =
@@ -57,7 +60,7 @@ encode-spec =
     Inv-loop
     μ-loop
     loop-holds
-    byte-requires
+    code-byte-requires
     slice-write-code
     add-i
     loop-less

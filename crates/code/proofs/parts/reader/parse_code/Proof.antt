@@ -1,6 +1,8 @@
--- `code::new` meets its contract: a walk of its MIR, by hand. `factors_of` and `words_of` are called on the slice passed, and a `Code` is made, in the result's local, of the four floats of the
+-- `code::new` meets its contract: a walk of its MIR, by hand. `factors_of` and `words_of` are called on the slice passed, and a `Code` is made, in
+-- the result's local, of the four floats of the
 -- record that the one returns and of the slice that the other returns. All that the proof knows of the two is that each meets its contract.
--- A `&[u8]` is Copy: what it owns is had as often as it is wanted. What a call returns is landed in its local and then rewritten to how its type spells it, so that a field of it can be read.
+-- A `&[u8]` is Copy: what it owns is had as often as it is wanted. What a call returns is landed in its local and then rewritten to how its type
+-- spells it, so that a field of it can be read.
 -- Assumes nothing.
 use mathlib.Core.Path.{_≡_, refl, ap}
 use Prim.Native.Nat.{ℕ, _≤_}
@@ -20,7 +22,8 @@ use prog.Wp.{Heap, Calls, Loops, WpFn, Tables}
 use ghost.Atoms.{Atoms, sem}
 use contract.Monad.{Fun, fact}
 use contract.Running.{givenOf, tables, tablesOf}
-use types.Kit.{Given, ‵, raw, _⊛_, ⋆, some, later, _$_, _∵_, !, qed, by, move, drop, use1, use2, split, pick, rewrite, fsplit, fjoin, suffices, frame, await, done}
+use types.Kit.{Given, ‵, raw, _⊛_, ⋆, some, later, _$_, _∵_, !, qed, by, move, drop, use1, use2, split, pick, rewrite, fsplit, fjoin, suffices, frame}
+use types.Kit.{await, done}
 use types.Part.{whole, sub, look-in, agg}
 use types.Run.{look, init, forget, stop, fld, from, load, and-then, no-more, assigns, land, returns, enter, alloc1, alloc0, params1, pass1, pass0, free1, free0}
 use sound.WpLaws.{FmC, fmOf, WpFn-mono}
@@ -73,7 +76,8 @@ module _ {M : Type 1} (𝓤 : URA M) (H : Heap 𝓤) (A : Atoms 𝓤) (mem : Mem
   abbrev ReadWords : Contract 𝓤
   ReadWords = tripleOf 𝓤 H A words.signature (words.spec 𝓤 H A mem run)
 
-module _ {M : Type 1} (𝓤 : URA M) (H : Heap 𝓤) (A : Atoms 𝓤) (W : Given 𝓤 H A) (mem : Memory → SProp 𝓤) (run : Routine → Fun 𝓤) (κ : Lft) (q : Share) (s : RefT (List ℕ)) (long : 16 ≤ length (now s)) where
+module _ {M : Type 1} (𝓤 : URA M) (H : Heap 𝓤) (A : Atoms 𝓤) (W : Given 𝓤 H A) (mem : Memory → SProp 𝓤) (run : Routine → Fun 𝓤) (κ : Lft) (q : Share)
+    (s : RefT (List ℕ)) (long : 16 ≤ length (now s)) where
   abbrev α : NamedLft
   α = namedLft 1 0 tt (κ, tt)
 
@@ -86,7 +90,8 @@ module _ {M : Type 1} (𝓤 : URA M) (H : Heap 𝓤) (A : Atoms 𝓤) (W : Given
 
   -- that the four floats fit their type
   abbrev Fit : Factors → Type 0
-  Fit r = (fits binary32 (r .«dis_u_2») ≡ true) × (fits binary32 (r .«factor_ppc») ≡ true) × (fits binary32 (r .«factor_ip») ≡ true) × (fits binary32 (r .«factor_err») ≡ true)
+  Fit r = (fits binary32 (r .«dis_u_2») ≡ true) × (fits binary32 (r .«factor_ppc») ≡ true) × (fits binary32 (r .«factor_ip») ≡ true)
+      × (fits binary32 (r .«factor_err») ≡ true)
 
   -- what is made of a record of factors and a slice of words
   abbrev made : Factors → RefT (List ℕ) → Code
@@ -109,13 +114,15 @@ module _ {M : Type 1} (𝓤 : URA M) (H : Heap 𝓤) (A : Atoms 𝓤) (W : Given
   goes-rf =
       qed W ((‵ (flft κ q) ⊛ ‵ ftrue) ∷ ‵ (owns (ShrSlice (named 0) κ u8 ∷ []) (s, tt) at) ∷ []) ∵
       move ! (1 ∷ []) $ fsplit ! $ use1 W (‵ Own ⊛ ‵ Own) (shr-slice-copy 𝓤 H A W (named 0) κ u8 .twice s (v ∷ [])) $ split ! $
-      move ! (0 ∷ 2 ∷ []) $ fjoin ! $ move ! (2 ∷ 0 ∷ []) $ use2 W (raw (ReadFactors 𝓤 H A mem run .pre to-rf)) (qed W ((‵ (flft κ q) ⊛ ‵ ftrue) ∷ ‵ (owns (ShrSlice (named 0) κ u8 ∷ []) (s, tt) at) ∷ []) ∵ says ! long $ frame ! $ done !) $ frame ! $ done !
+      move ! (0 ∷ 2 ∷ []) $ fjoin ! $ move ! (2 ∷ 0 ∷ []) $ use2 W (raw (ReadFactors 𝓤 H A mem run .pre to-rf))
+      (qed W ((‵ (flft κ q) ⊛ ‵ ftrue) ∷ ‵ (owns (ShrSlice (named 0) κ u8 ∷ []) (s, tt) at) ∷ []) ∵ says ! long $ frame ! $ done !) $ frame ! $ done !
 
   goes-rw : ent 𝓤 (⋆ 𝓤 H A ((‵ (flft κ q) ⊛ ‵ ftrue) ∷ ‵ Own ∷ [])) (sep 𝓤 (ReadWords 𝓤 H A mem run .pre to-rw) (sem 𝓤 H A Own))
   goes-rw =
       qed W ((‵ (flft κ q) ⊛ ‵ ftrue) ∷ ‵ Own ∷ []) ∵
       move ! (1 ∷ []) $ use1 W (‵ Own ⊛ ‵ Own) (shr-slice-copy 𝓤 H A W (named 0) κ u8 .twice s (v ∷ [])) $ split ! $ nothing ! $
-      move ! (1 ∷ 0 ∷ []) $ fjoin ! $ move ! (2 ∷ 0 ∷ []) $ use2 W (raw (ReadWords 𝓤 H A mem run .pre to-rw)) (qed W ((‵ (flft κ q) ⊛ ‵ ftrue) ∷ ‵ (owns (ShrSlice (named 0) κ u8 ∷ []) (s, tt) at) ∷ []) ∵ says ! long $ frame ! $ done !) $ frame ! $ done !
+      move ! (1 ∷ 0 ∷ []) $ fjoin ! $ move ! (2 ∷ 0 ∷ []) $ use2 W (raw (ReadWords 𝓤 H A mem run .pre to-rw))
+      (qed W ((‵ (flft κ q) ⊛ ‵ ftrue) ∷ ‵ (owns (ShrSlice (named 0) κ u8 ∷ []) (s, tt) at) ∷ []) ∵ says ! long $ frame ! $ done !) $ frame ! $ done !
 
   rf-said : (r : Factors) → ent 𝓤 (ensured 𝓤 H A factors.ended (factors.clauses 𝓤 H A mem run) (κ, tt) (s, tt) tt r) (fact 𝓤 (r ≡ factorsAt (now s)))
   rf-said r = exE 𝓤 _ (λ ws. snd∗ 𝓤 (sem 𝓤 H A (lasts factors.ended (κ, tt) (s, tt) ws)) (fact 𝓤 (r ≡ factorsAt (now s))))
@@ -124,10 +131,12 @@ module _ {M : Type 1} (𝓤 : URA M) (H : Heap 𝓤) (A : Atoms 𝓤) (W : Given
   rw-said w = exE 𝓤 _ (λ ws. snd∗ 𝓤 (sem 𝓤 H A (lasts words.ended (κ, tt) (s, tt) ws)) (fact 𝓤 (now w ≡ wordsAt (now s))))
 
   exits : (r : Factors) (w : RefT (List ℕ)) → Fit r → r ≡ factorsAt (now s) → now w ≡ wordsAt (now s)
-      → ent 𝓤 (⋆ 𝓤 H A (‵ (ShrSlice (named 0) κ u8 .own w (sliceVal (w .ptr) (length (w .now)) ∷ [])) ∷ (‵ (flft κ q) ⊛ ‵ ftrue) ∷ ‵ Own ∷ [])) (Post (T′.lowered (made r w)))
+      → ent 𝓤 (⋆ 𝓤 H A (‵ (ShrSlice (named 0) κ u8 .own w (sliceVal (w .ptr) (length (w .now)) ∷ [])) ∷ (‵ (flft κ q) ⊛ ‵ ftrue) ∷ ‵ Own ∷ []))
+      (Post (T′.lowered (made r w)))
   exits r w fit e e′ =
       qed W (‵ (ShrSlice (named 0) κ u8 .own w (sliceVal (w .ptr) (length (w .now)) ∷ [])) ∷ (‵ (flft κ q) ⊛ ‵ ftrue) ∷ ‵ Own ∷ []) ∵
-      suffices ! _ (ends-at 𝓤 H A f.ended stayed (f.clauses 𝓤 H A mem run) W (((κ, tt), (q, tt), tt, (s, tt), at), tt) (T′.lowered (made r w)) (made r w) (tt, tt) (tt, tt)) $ says ! (e, e′) $
+      suffices ! _ (ends-at 𝓤 H A f.ended stayed (f.clauses 𝓤 H A mem run) W (((κ, tt), (q, tt), tt, (s, tt), at), tt) (T′.lowered (made r w)) (made r w)
+      (tt, tt) (tt, tt)) $ says ! (e, e′) $
       move ! (1 ∷ []) $ frame ! $ nothing ! $ move ! (2 ∷ 0 ∷ []) $ fjoin ! $ frame ! $
       -- [what words owns]: what the fields own together, of it and of the floats' facts, is what the struct owns
       nothing ! $ move ! (1 ∷ 0 ∷ []) $ fjoin ! $
@@ -137,44 +146,65 @@ module _ {M : Type 1} (𝓤 : URA M) (H : Heap 𝓤) (A : Atoms 𝓤) (W : Given
       owned ! f32 (Is f32) (float-makes 𝓤 H A W binary32) (r .«dis_u_2») _ (refl, fit .0) $ fjoin ! $
       by ! (own-shut 𝓤 H A W (T.the-type α) (T′.the-laws α) (r .«dis_u_2», (r .«factor_ppc», (r .«factor_ip», (r .«factor_err», (w, tt))))))
 
-  module _ (C : Calls 𝓤 H) (Λ : Loops 𝓤 H) (fm : FmC 𝓤 H (W .laws) C) (known-rf : Triple 𝓤 (C #read-factors) (ReadFactors 𝓤 H A mem run)) (known-rw : Triple 𝓤 (C #read-words) (ReadWords 𝓤 H A mem run)) where
+  module _ (C : Calls 𝓤 H) (Λ : Loops 𝓤 H) (fm : FmC 𝓤 H (W .laws) C) (known-rf : Triple 𝓤 (C #read-factors) (ReadFactors 𝓤 H A mem run))
+      (known-rw : Triple 𝓤 (C #read-words) (ReadWords 𝓤 H A mem run)) where
     walk : Is (ShrSlice (named 0) κ u8) s (v ∷ []) → ent 𝓤 (onEntry 𝓤 H A f.signature (κ, tt) (q, tt) (s, tt) at) (WpFn 𝓤 H C Λ code.function (v ∷ []) Post)
     walk p =
         qed W (raw (onEntry 𝓤 H A f.signature (κ, tt) (q, tt) (s, tt) at) ∷ []) ∵ enter ! C Λ code.function (v ∷ []) _ $
-        alloc1 ! (λ l₀. alloc1 ! (λ l₁. alloc1 ! (λ l₂. alloc1 ! (λ l₃. alloc0 ! $ params1 ! $ pass1 ! (init ! 4 refl (shr-slice-lawful 𝓤 H A W (named 0) κ u8 .typed s (v ∷ []) p .0)) $ pass0 ! $
+        alloc1 ! (λ l₀. alloc1 ! (λ l₁. alloc1 ! (λ l₂. alloc1 !
+        (λ l₃. alloc0 ! $ params1 ! $ pass1 ! (init ! 4 refl (shr-slice-lawful 𝓤 H A W (named 0) κ u8 .typed s (v ∷ []) p .0)) $ pass0 ! $
         move ! (8 ∷ []) $ use1 W (raw (ReadFactors 𝓤 H A mem run .pre to-rf) ⊛ ‵ Own) goes-rf $ split ! $
         calls-at ! fm (ReadFactors 𝓤 H A mem run) known-rf to-rf (and-then ! (load ! (from ! (stop !)) (look ! 6 refl)) (no-more !)) (λ u.
-        use1 W (later (some (λ (r : Factors). ((‵ (flft κ q) ⊛ ‵ ftrue) ⊛ ‵ (F.the-row .own r (u ∷ []))) ⊛ raw (ensured 𝓤 H A factors.ended (factors.clauses 𝓤 H A mem run) (κ, tt) (s, tt) tt r)))) (id⊢ 𝓤 _) $ await ! tt $ pick ! (λ r.
-        split ! $ move ! (1 ∷ []) $ use1 W (raw (fact 𝓤 (r ≡ factorsAt (now s)))) (rf-said r) $ heard ! (r ≡ factorsAt (now s)) (λ e. split ! $ move ! (1 ∷ []) $
+        use1 W (later (some (λ (r : Factors). ((‵ (flft κ q) ⊛ ‵ ftrue) ⊛ ‵ (F.the-row .own r (u ∷ []))) ⊛ raw
+        (ensured 𝓤 H A factors.ended (factors.clauses 𝓤 H A mem run) (κ, tt) (s, tt) tt r)))) (id⊢ 𝓤 _) $ await ! tt $ pick ! (λ r.
+        split ! $ move ! (1 ∷ []) $ use1 W (raw (fact 𝓤 (r ≡ factorsAt (now s)))) (rf-said r) $
+        heard ! (r ≡ factorsAt (now s)) (λ e. split ! $ move ! (1 ∷ []) $
         -- [what the record owns; the token; what s owns; room for _3; …; room for _2; …; _1; …; room for _0; …]
         peeks ! F.the-row (Is F.the-row) (shows 𝓤 H A F.the-row) r (u ∷ []) (λ is.
         land ! (from ! (stop !)) (init ! 5 refl (LL.lawful F.the-type F′.the-laws 𝓤 H A W .typed r _ is .0)) $
         rewrite ! 5 (λ (w : Val). ‵ (fat fullShare F′.mir l₂ 0 w)) (ap only (LL.tells F.the-type F′.the-laws r _ is)) refl $ drop ! $
         use2 W (raw (ReadWords 𝓤 H A mem run .pre to-rw) ⊛ ‵ Own) goes-rw $ split ! $
         calls-at ! fm (ReadWords 𝓤 H A mem run) known-rw to-rw (and-then ! (load ! (from ! (stop !)) (look ! 6 refl)) (no-more !)) (λ u′.
-        use1 W (later (some (λ (w : RefT (List ℕ)). ((‵ (flft κ q) ⊛ ‵ ftrue) ⊛ ‵ (ShrSlice (named 0) κ u8 .own w (u′ ∷ []))) ⊛ raw (ensured 𝓤 H A words.ended (words.clauses 𝓤 H A mem run) (κ, tt) (s, tt) tt w)))) (id⊢ 𝓤 _) $ await ! tt $ pick ! (λ w.
-        split ! $ move ! (1 ∷ []) $ use1 W (raw (fact 𝓤 (now w ≡ wordsAt (now s)))) (rw-said w) $ heard ! (now w ≡ wordsAt (now s)) (λ e′. split ! $ move ! (1 ∷ []) $
+        use1 W (later (some (λ (w : RefT (List ℕ)). ((‵ (flft κ q) ⊛ ‵ ftrue) ⊛ ‵ (ShrSlice (named 0) κ u8 .own w (u′ ∷ []))) ⊛ raw
+        (ensured 𝓤 H A words.ended (words.clauses 𝓤 H A mem run) (κ, tt) (s, tt) tt w)))) (id⊢ 𝓤 _) $ await ! tt $ pick ! (λ w.
+        split ! $ move ! (1 ∷ []) $ use1 W (raw (fact 𝓤 (now w ≡ wordsAt (now s)))) (rw-said w) $
+        heard ! (now w ≡ wordsAt (now s)) (λ e′. split ! $ move ! (1 ∷ []) $
         -- [what words owns; the token; what s owns; room for _3; …; _2; …; _1; …; room for _0; …]
         peeks ! (ShrSlice (named 0) κ u8) (Is (ShrSlice (named 0) κ u8)) (shows 𝓤 H A (ShrSlice (named 0) κ u8)) w (u′ ∷ []) (λ is′.
         land ! (from ! (stop !)) (init ! 3 refl (shr-slice-lawful 𝓤 H A W erased κ u8 .typed w _ is′ .0)) $
         rewrite ! 3 (λ (x : Val). ‵ (fat fullShare (sliceTy (tyRef erased imm (tyInt w8))) l₃ 0 x)) (ap only (is′ .0 .0)) refl $
         rewrite ! 0 (λ (xs : List Val). ‵ (ShrSlice (named 0) κ u8 .own w xs)) (is′ .0 .0) refl $
         let fields = LL.owed F.the-type F′.the-laws r _ is in
-        assigns ! (agg ! (and-then ! (load ! (from ! (fld ! refl (stop !))) (look-in ! 5 (sub ! 0 refl (whole !)))) (and-then ! (load ! (from ! (fld ! refl (stop !))) (look-in ! 5 (sub ! 1 refl (whole !)))) (and-then ! (load ! (from ! (fld ! refl (stop !))) (look-in ! 5 (sub ! 2 refl (whole !)))) (and-then ! (load ! (from ! (fld ! refl (stop !))) (look-in ! 5 (sub ! 3 refl (whole !)))) (and-then ! (load ! (from ! (stop !)) (look ! 3 refl)) (no-more !)))))))
-        (from ! (stop !)) (init ! 9 refl (tt, (passes _ (fields .0 .1), (passes _ (fields .1 .0 .1), (passes _ (fields .1 .1 .0 .1), (passes _ (fields .1 .1 .1 .0 .1), ((tt, (record { fits = is′ .0 .1 .0 }, tt)), tt))))))) $
+        assigns ! (agg ! (and-then ! (load ! (from ! (fld ! refl (stop !))) (look-in ! 5 (sub ! 0 refl (whole !))))
+        (and-then ! (load ! (from ! (fld ! refl (stop !))) (look-in ! 5 (sub ! 1 refl (whole !))))
+        (and-then ! (load ! (from ! (fld ! refl (stop !))) (look-in ! 5 (sub ! 2 refl (whole !))))
+        (and-then ! (load ! (from ! (fld ! refl (stop !))) (look-in ! 5 (sub ! 3 refl (whole !))))
+        (and-then ! (load ! (from ! (stop !)) (look ! 3 refl)) (no-more !)))))))
+        (from ! (stop !)) (init ! 9 refl (
+          tt,
+          (
+            passes _ (fields .0 .1),
+            (passes _ (fields .1 .0 .1), (passes _ (fields .1 .1 .0 .1), (passes _ (fields .1 .1 .1 .0 .1), ((tt, (record { fits = is′ .0 .1 .0 }, tt)), tt)))),
+          ),
+        )) $
         returns ! (look ! 9 refl) $ forget ! 3 refl $ forget ! 5 refl $ forget ! 7 refl $ forget ! 9 refl $
-        move ! (9 ∷ 10 ∷ []) $ free1 ! $ move ! (7 ∷ 8 ∷ []) $ free1 ! $ move ! (5 ∷ 6 ∷ []) $ free1 ! $ move ! (3 ∷ 4 ∷ []) $ free1 ! $ free0 ! $ by ! (exits r w (fields .0 .1, fields .1 .0 .1, fields .1 .1 .0 .1, fields .1 .1 .1 .0 .1) e e′)))))))))))))
+        move ! (9 ∷ 10 ∷ []) $ free1 ! $ move ! (7 ∷ 8 ∷ []) $ free1 ! $ move ! (5 ∷ 6 ∷ []) $ free1 ! $ move ! (3 ∷ 4 ∷ []) $ free1 ! $ free0 ! $
+        by ! (exits r w (fields .0 .1, fields .1 .0 .1, fields .1 .1 .0 .1, fields .1 .1 .1 .0 .1) e e′)))))))))))))
 
 module _ {M : Type 1} (𝓤 : URA M) (H : Heap 𝓤) (A : Atoms 𝓤) (W : Given 𝓤 H A) (mem : Memory → SProp 𝓤) (run : Routine → Fun 𝓤) where
-  parse-code-walks : (C : Calls 𝓤 H) (Λ : Loops 𝓤 H) → FmC 𝓤 H (W .laws) C → Triple 𝓤 (C #read-factors) (ReadFactors 𝓤 H A mem run) → Triple 𝓤 (C #read-words) (ReadWords 𝓤 H A mem run)
+  parse-code-walks : (C : Calls 𝓤 H) (Λ : Loops 𝓤 H) → FmC 𝓤 H (W .laws) C → Triple 𝓤 (C #read-factors) (ReadFactors 𝓤 H A mem run)
+      → Triple 𝓤 (C #read-words) (ReadWords 𝓤 H A mem run)
       → Walks 𝓤 H A f.ended stayed (WpFn 𝓤 H C Λ code.function) (f.clauses 𝓤 H A mem run)
-  parse-code-walks C Λ fm known-rf known-rw = walked 𝓤 H A f.ended stayed (f.clauses 𝓤 H A mem run) (WpFn 𝓤 H C Λ code.function) (λ κs. (slice-vals, tt)) (λ κs. (shr-slice-tells (named 0) (κs .0) u8, tt))
-      (λ κs qs bounds a g are. needs 𝓤 (16 ≤ length (now (a .0))) _ (λ long. walk 𝓤 H A W mem run (κs .0) (qs .0) (a .0) long C Λ fm known-rf known-rw (are .0)))
+  parse-code-walks C Λ fm known-rf known-rw = walked 𝓤 H A f.ended stayed (f.clauses 𝓤 H A mem run) (WpFn 𝓤 H C Λ code.function) (λ κs. (slice-vals, tt))
+      (λ κs. (shr-slice-tells (named 0) (κs .0) u8, tt))
+      (λ κs qs bounds a g are. needs 𝓤 (16 ≤ length (now (a .0))) _
+      (λ long. walk 𝓤 H A W mem run (κs .0) (qs .0) (a .0) long C Λ fm known-rf known-rw (are .0)))
 
 parse-code-meets : {M : Type 1} (𝓤 : URA M) (H : Heap 𝓤) (A : Atoms 𝓤) (W : Given 𝓤 H A) (mem : Memory → SProp 𝓤) (run : Routine → Fun 𝓤) (𝓣 : Tables 𝓤 H)
     → Triple 𝓤 (𝓣 .C #read-factors) (ReadFactors 𝓤 H A mem run) → Triple 𝓤 (𝓣 .C #read-words) (ReadWords 𝓤 H A mem run)
     → Meets 𝓤 H A f.signature (WpFn 𝓤 H (𝓣 .C) (𝓣 .Λ) code.function) (f.spec 𝓤 H A mem run)
-parse-code-meets 𝓤 H A W mem run 𝓣 known-rf known-rw = walk-meets 𝓤 H A f.ended stayed W (goes-none-slice 𝓤 H A W 1 (0 ∷ []) tt (plain (λ _. u8)) yes, tt) (f.clauses 𝓤 H A mem run) (WpFn 𝓤 H (𝓣 .C) (𝓣 .Λ) code.function) (WpFn-mono 𝓤 H (W .laws) 𝓣 code.function)
+parse-code-meets 𝓤 H A W mem run 𝓣 known-rf known-rw = walk-meets 𝓤 H A f.ended stayed W (goes-none-slice 𝓤 H A W 1 (0 ∷ []) tt (plain (λ _. u8)) yes, tt)
+    (f.clauses 𝓤 H A mem run) (WpFn 𝓤 H (𝓣 .C) (𝓣 .Λ) code.function) (WpFn-mono 𝓤 H (W .laws) 𝓣 code.function)
     (parse-code-walks 𝓤 H A W mem run (𝓣 .C) (𝓣 .Λ) (fmOf 𝓤 H (W .laws) 𝓣) known-rf known-rw)
 
 pub parse-code-spec : {M : Type 1} → stated.statement M
@@ -183,5 +213,6 @@ parse-code-spec 𝓤 H 𝓜 𝓖 𝓡 =
     entered 𝓤 H (tripleOf 𝓤 H (𝓖 .A) f.signature (f.spec 𝓤 H (𝓖 .A) (𝓜 .mem) (𝓡 .run)))
     (tables 𝓤 H 𝓜 𝓡 code.env .C) (tables 𝓤 H 𝓜 𝓡 code.env .Λ) #parse-code code.function (code.unfolded 𝓤 H 𝓜 𝓡)
     (parse-code-meets 𝓤 H (𝓖 .A) (givenOf 𝓤 H 𝓜 𝓖) (𝓜 .mem) (𝓡 .run) (tablesOf 𝓤 H 𝓜 (tables 𝓤 H 𝓜 𝓡 code.env))
-    (cited 𝓤 H (ReadFactors 𝓤 H (𝓖 .A) (𝓜 .mem) (𝓡 .run)) 𝓜 𝓡 code.env #read-factors rf-def.routine code.calls-code·parts·reader·read-factors (rf-thm.met 𝓤 H 𝓜 𝓖 𝓡))
+    (cited 𝓤 H (ReadFactors 𝓤 H (𝓖 .A) (𝓜 .mem) (𝓡 .run)) 𝓜 𝓡 code.env #read-factors rf-def.routine code.calls-code·parts·reader·read-factors
+    (rf-thm.met 𝓤 H 𝓜 𝓖 𝓡))
     (cited 𝓤 H (ReadWords 𝓤 H (𝓖 .A) (𝓜 .mem) (𝓡 .run)) 𝓜 𝓡 code.env #read-words rw-def.routine code.calls-code·parts·reader·read-words (rw-thm.met 𝓤 H 𝓜 𝓖 𝓡)))

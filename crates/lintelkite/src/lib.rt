@@ -136,6 +136,8 @@ pub extern "C" fn lk_block_lane(dims: u32, block: &[u8], lane: u32, code: &mut [
     ensures { λ r. ⌜ (r, now (code .exit)) ≡ blocks.laneAnswer dims (now (block .entry)) lane (now (code .entry)) ⌝ }
 {
     block::block_lane(dims, block, lane, code)
+}
+
 // ---- module 9, reranker
 
 #[no_mangle]

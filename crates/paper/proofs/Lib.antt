@@ -1,1 +1,2 @@
 pub mod Demand1Laws
+pub mod TableLaws

@@ -49,6 +49,9 @@ uint32_t lk_digits_pack(uint32_t dims, uint32_t bits, const uint8_t *codes, size
 uint32_t lk_digits_read(uint32_t dims, uint32_t bits, const uint8_t *packed, size_t packed_len,
                         uint32_t index, uint8_t *out, size_t out_len);
 
+/* ---- module 3, square root: one float in out */
+uint32_t lk_root(float x, uint8_t *out, size_t out_len);
+
 #ifdef __cplusplus
 }
 #endif

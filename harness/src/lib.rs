@@ -21,3 +21,4 @@ pub mod trial;
 pub mod upstream;
 
 pub mod digits;
+pub mod root;

@@ -22,4 +22,7 @@ extern "C" {
         out: *mut u8,
         out_len: usize,
     ) -> u32;
+
+    // module 3, square root
+    pub fn lk_root(x: f32, out: *mut u8, out_len: usize) -> u32;
 }

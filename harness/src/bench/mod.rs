@@ -4,6 +4,7 @@
 //! The ratio is ours to the Rust's form. Where a ratio is asked for, it stands beside the one measured.
 
 mod digits;
+mod root;
 
 use crate::upstream::detect::{levels, with, Level};
 use std::hint::black_box;
@@ -118,4 +119,5 @@ pub fn heading(text: &str) {
 /// Prints every table.
 pub fn all(clock: &Clock) {
     digits::run(clock);
+    root::run(clock);
 }

@@ -5,6 +5,7 @@
 //! call's answers are then those of a copy with a slip in it.
 
 mod digits;
+mod root;
 
 use crate::refusal::{ACCEPTED, NAMES};
 use crate::rng::Rng;
@@ -29,6 +30,7 @@ pub struct Call {
 pub fn calls() -> Vec<&'static Call> {
     let parts: &[&'static [Call]] = &[
         digits::CALLS,
+        root::CALLS,
     ];
     parts.iter().copied().flatten().collect()
 }

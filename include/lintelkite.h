@@ -49,6 +49,17 @@ uint32_t lk_digits_pack(uint32_t dims, uint32_t bits, const uint8_t *codes, size
 uint32_t lk_digits_read(uint32_t dims, uint32_t bits, const uint8_t *packed, size_t packed_len,
                         uint32_t index, uint8_t *out, size_t out_len);
 
+/* ---- module 2, scalar quantizer. vector, min, max: dims floats each. code: W(bits, dims).
+ *      table: dims * 2^bits floats. out: one float */
+uint32_t lk_scalar_encode(uint32_t dims, uint32_t bits, const uint8_t *vector, size_t vector_len,
+                          const uint8_t *min, size_t min_len, const uint8_t *max, size_t max_len,
+                          uint8_t *code, size_t code_len);
+uint32_t lk_scalar_table(uint32_t metric, uint32_t dims, uint32_t bits, const uint8_t *vector, size_t vector_len,
+                         const uint8_t *min, size_t min_len, const uint8_t *max, size_t max_len,
+                         uint8_t *table, size_t table_len);
+uint32_t lk_scalar_distance(uint32_t metric, uint32_t dims, uint32_t bits, const uint8_t *table, size_t table_len,
+                            const uint8_t *code, size_t code_len, uint8_t *out, size_t out_len);
+
 /* ---- module 3, square root: one float in out */
 uint32_t lk_root(float x, uint8_t *out, size_t out_len);
 

@@ -22,3 +22,4 @@ pub mod upstream;
 
 pub mod digits;
 pub mod root;
+pub mod scalar;

@@ -5,6 +5,7 @@
 
 mod digits;
 mod root;
+mod scalar;
 
 use crate::upstream::detect::{levels, with, Level};
 use std::hint::black_box;
@@ -120,4 +121,5 @@ pub fn heading(text: &str) {
 pub fn all(clock: &Clock) {
     digits::run(clock);
     root::run(clock);
+    scalar::run(clock);
 }

@@ -6,6 +6,7 @@
 
 mod digits;
 mod root;
+mod scalar;
 
 use crate::refusal::{ACCEPTED, NAMES};
 use crate::rng::Rng;
@@ -31,6 +32,7 @@ pub fn calls() -> Vec<&'static Call> {
     let parts: &[&'static [Call]] = &[
         digits::CALLS,
         root::CALLS,
+        scalar::CALLS,
     ];
     parts.iter().copied().flatten().collect()
 }

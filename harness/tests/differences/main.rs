@@ -1,0 +1,3 @@
+//! The intended differences from the Rust, each with its smallest input, both sides shown.
+
+mod scalar;

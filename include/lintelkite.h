@@ -63,6 +63,15 @@ uint32_t lk_scalar_distance(uint32_t metric, uint32_t dims, uint32_t bits, const
 /* ---- module 3, square root: one float in out */
 uint32_t lk_root(float x, uint8_t *out, size_t out_len);
 
+/* ---- module 9, reranker. estimates and distances: 4 bytes a place, marks: 1 byte a place, one number of places
+ *      from 0 to 4,096. next's out is 16 bytes: the answer (enum lk_answer), the place (0 when Done), the distance
+ *      (a float at Give, else 0), and the count of asked. supply's out is 4 bytes: the count of asked */
+uint32_t lk_rerank_next(const uint8_t *estimates, size_t estimates_len, const uint8_t *distances, size_t distances_len,
+                        uint8_t *marks, size_t marks_len, uint8_t *out, size_t out_len);
+uint32_t lk_rerank_supply(const uint8_t *estimates, size_t estimates_len, uint8_t *distances, size_t distances_len,
+                          uint8_t *marks, size_t marks_len, uint32_t place, float distance,
+                          uint8_t *out, size_t out_len);
+
 #ifdef __cplusplus
 }
 #endif

@@ -21,5 +21,6 @@ pub mod trial;
 pub mod upstream;
 
 pub mod digits;
+pub mod rerank;
 pub mod root;
 pub mod scalar;

@@ -4,6 +4,7 @@
 //! The ratio is ours to the Rust's form. Where a ratio is asked for, it stands beside the one measured.
 
 mod digits;
+mod rerank;
 mod root;
 mod scalar;
 
@@ -122,4 +123,5 @@ pub fn all(clock: &Clock) {
     digits::run(clock);
     root::run(clock);
     scalar::run(clock);
+    rerank::run(clock);
 }

@@ -5,6 +5,7 @@
 //! call's answers are then those of a copy with a slip in it.
 
 mod digits;
+mod rerank;
 mod root;
 mod scalar;
 
@@ -33,6 +34,7 @@ pub fn calls() -> Vec<&'static Call> {
         digits::CALLS,
         root::CALLS,
         scalar::CALLS,
+        rerank::CALLS,
     ];
     parts.iter().copied().flatten().collect()
 }

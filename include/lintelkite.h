@@ -12,7 +12,8 @@
  * state of its own, so calls from several threads on buffers of their own are fine.
  * A NaN that a call works out is written as the pattern 0x7FC00000. Factors are copied bit for bit.
  *
- * Names of lengths below: W(bits, dims) = ceil(dims * bits / 8).
+ * Names of lengths below: W(bits, dims) = ceil(dims * bits / 8); C(dims) = 16 + 8 * ceil(dims / 64);
+ * B(dims) = 512 + 16 * ceil(dims / 4).
  */
 #ifndef LINTELKITE_H
 #define LINTELKITE_H
@@ -41,6 +42,7 @@ enum lk_answer { LK_DONE = 0, LK_ASK = 1, LK_GIVE = 2 };
 
 /* ---- sizes, for whoever makes the buffers: a 32-bit number in out (4 bytes) */
 uint32_t lk_digits_size(uint32_t dims, uint32_t bits, uint8_t *out, size_t out_len);         /* W(bits, dims) */
+uint32_t lk_code_size(uint32_t dims, uint8_t *out, size_t out_len);                          /* C(dims) */
 
 /* ---- module 1, digits. codes: dims bytes, one code each. packed: W(bits, dims) */
 uint32_t lk_digits_pack(uint32_t dims, uint32_t bits, const uint8_t *codes, size_t codes_len,
@@ -62,6 +64,14 @@ uint32_t lk_scalar_distance(uint32_t metric, uint32_t dims, uint32_t bits, const
 
 /* ---- module 3, square root: one float in out */
 uint32_t lk_root(float x, uint8_t *out, size_t out_len);
+
+/* ---- module 4, single code. factors: dis_u_2, factor_ppc, factor_ip, factor_err (16 bytes). vector: dims floats.
+ *      code: C(dims) */
+uint32_t lk_code_encode(uint32_t dims, const uint8_t *factors, size_t factors_len,
+                        const uint8_t *vector, size_t vector_len, uint8_t *code, size_t code_len);
+/* the bit of dimension index, 0 or 1, as a 32-bit number in out (4 bytes); index at or past dims is OUT_OF_RANGE */
+uint32_t lk_code_bit(uint32_t dims, const uint8_t *code, size_t code_len, uint32_t index,
+                     uint8_t *out, size_t out_len);
 
 /* ---- module 9, reranker. estimates and distances: 4 bytes a place, marks: 1 byte a place, one number of places
  *      from 0 to 4,096. next's out is 16 bytes: the answer (enum lk_answer), the place (0 when Done), the distance

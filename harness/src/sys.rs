@@ -3,6 +3,7 @@
 extern "C" {
     // sizes
     pub fn lk_digits_size(dims: u32, bits: u32, out: *mut u8, out_len: usize) -> u32;
+    pub fn lk_code_size(dims: u32, out: *mut u8, out_len: usize) -> u32;
 
     // module 1, digits
     pub fn lk_digits_pack(
@@ -63,6 +64,18 @@ extern "C" {
 
     // module 3, square root
     pub fn lk_root(x: f32, out: *mut u8, out_len: usize) -> u32;
+
+    // module 4, single code
+    pub fn lk_code_encode(
+        dims: u32,
+        factors: *const u8,
+        factors_len: usize,
+        vector: *const u8,
+        vector_len: usize,
+        code: *mut u8,
+        code_len: usize,
+    ) -> u32;
+    pub fn lk_code_bit(dims: u32, code: *const u8, code_len: usize, index: u32, out: *mut u8, out_len: usize) -> u32;
 
     // module 9, reranker
     pub fn lk_rerank_next(

@@ -4,6 +4,7 @@
 //! A run is a list of calls drawn from a seed. To show that a wrong library would be caught, a run can be broken: one
 //! call's answers are then those of a copy with a slip in it.
 
+mod code;
 mod digits;
 mod rerank;
 mod root;
@@ -35,6 +36,7 @@ pub fn calls() -> Vec<&'static Call> {
         root::CALLS,
         scalar::CALLS,
         rerank::CALLS,
+        code::CALLS,
     ];
     parts.iter().copied().flatten().collect()
 }

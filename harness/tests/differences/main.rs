@@ -1,4 +1,5 @@
 //! The intended differences from the Rust, each with its smallest input, both sides shown.
 
+mod code;
 mod rerank;
 mod scalar;

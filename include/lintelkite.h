@@ -43,6 +43,7 @@ enum lk_answer { LK_DONE = 0, LK_ASK = 1, LK_GIVE = 2 };
 /* ---- sizes, for whoever makes the buffers: a 32-bit number in out (4 bytes) */
 uint32_t lk_digits_size(uint32_t dims, uint32_t bits, uint8_t *out, size_t out_len);         /* W(bits, dims) */
 uint32_t lk_code_size(uint32_t dims, uint8_t *out, size_t out_len);                          /* C(dims) */
+uint32_t lk_block_size(uint32_t dims, uint8_t *out, size_t out_len);                         /* B(dims) */
 
 /* ---- module 1, digits. codes: dims bytes, one code each. packed: W(bits, dims) */
 uint32_t lk_digits_pack(uint32_t dims, uint32_t bits, const uint8_t *codes, size_t codes_len,
@@ -72,6 +73,11 @@ uint32_t lk_code_encode(uint32_t dims, const uint8_t *factors, size_t factors_le
 /* the bit of dimension index, 0 or 1, as a 32-bit number in out (4 bytes); index at or past dims is OUT_OF_RANGE */
 uint32_t lk_code_bit(uint32_t dims, const uint8_t *code, size_t code_len, uint32_t index,
                      uint8_t *out, size_t out_len);
+
+/* ---- module 5, block. codes: 32 single codes end to end, 32 * C(dims). block: B(dims) */
+uint32_t lk_block_pack(uint32_t dims, const uint8_t *codes, size_t codes_len, uint8_t *block, size_t block_len);
+uint32_t lk_block_lane(uint32_t dims, const uint8_t *block, size_t block_len, uint32_t lane,
+                       uint8_t *code, size_t code_len);
 
 /* ---- module 9, reranker. estimates and distances: 4 bytes a place, marks: 1 byte a place, one number of places
  *      from 0 to 4,096. next's out is 16 bytes: the answer (enum lk_answer), the place (0 when Done), the distance

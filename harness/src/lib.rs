@@ -20,6 +20,7 @@ pub mod trial;
 #[rustfmt::skip]
 pub mod upstream;
 
+pub mod block;
 pub mod code;
 pub mod digits;
 pub mod rerank;

@@ -4,6 +4,7 @@ extern "C" {
     // sizes
     pub fn lk_digits_size(dims: u32, bits: u32, out: *mut u8, out_len: usize) -> u32;
     pub fn lk_code_size(dims: u32, out: *mut u8, out_len: usize) -> u32;
+    pub fn lk_block_size(dims: u32, out: *mut u8, out_len: usize) -> u32;
 
     // module 1, digits
     pub fn lk_digits_pack(
@@ -76,6 +77,17 @@ extern "C" {
         code_len: usize,
     ) -> u32;
     pub fn lk_code_bit(dims: u32, code: *const u8, code_len: usize, index: u32, out: *mut u8, out_len: usize) -> u32;
+
+    // module 5, block
+    pub fn lk_block_pack(dims: u32, codes: *const u8, codes_len: usize, block: *mut u8, block_len: usize) -> u32;
+    pub fn lk_block_lane(
+        dims: u32,
+        block: *const u8,
+        block_len: usize,
+        lane: u32,
+        code: *mut u8,
+        code_len: usize,
+    ) -> u32;
 
     // module 9, reranker
     pub fn lk_rerank_next(

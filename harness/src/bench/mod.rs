@@ -3,6 +3,7 @@
 //! Times are the least of many repetitions, taken in turns, so that whatever else the machine does touches all alike.
 //! The ratio is ours to the Rust's form. Where a ratio is asked for, it stands beside the one measured.
 
+mod block;
 mod code;
 mod digits;
 mod rerank;
@@ -126,4 +127,5 @@ pub fn all(clock: &Clock) {
     scalar::run(clock);
     rerank::run(clock);
     code::run(clock);
+    block::run(clock);
 }

@@ -4,6 +4,7 @@
 //! A run is a list of calls drawn from a seed. To show that a wrong library would be caught, a run can be broken: one
 //! call's answers are then those of a copy with a slip in it.
 
+mod block;
 mod code;
 mod digits;
 mod rerank;
@@ -37,6 +38,7 @@ pub fn calls() -> Vec<&'static Call> {
         scalar::CALLS,
         rerank::CALLS,
         code::CALLS,
+        block::CALLS,
     ];
     parts.iter().copied().flatten().collect()
 }

@@ -1,5 +1,6 @@
 //! The intended differences from the Rust, each with its smallest input, both sides shown.
 
+mod block;
 mod code;
 mod rerank;
 mod scalar;

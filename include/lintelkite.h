@@ -79,6 +79,14 @@ uint32_t lk_block_pack(uint32_t dims, const uint8_t *codes, size_t codes_len, ui
 uint32_t lk_block_lane(uint32_t dims, const uint8_t *block, size_t block_len, uint32_t lane,
                        uint8_t *code, size_t code_len);
 
+/* ---- module 6, sums. query: dims bytes, codes of at most 15. A sum is a 32-bit number */
+uint32_t lk_query_sum(uint32_t dims, const uint8_t *query, size_t query_len, uint8_t *out, size_t out_len);
+uint32_t lk_code_sum(uint32_t dims, const uint8_t *query, size_t query_len,
+                     const uint8_t *code, size_t code_len, uint8_t *out, size_t out_len);
+/* 32 sums, lane 0 first: out is 128 bytes */
+uint32_t lk_block_sums(uint32_t dims, const uint8_t *query, size_t query_len,
+                       const uint8_t *block, size_t block_len, uint8_t *out, size_t out_len);
+
 /* ---- module 9, reranker. estimates and distances: 4 bytes a place, marks: 1 byte a place, one number of places
  *      from 0 to 4,096. next's out is 16 bytes: the answer (enum lk_answer), the place (0 when Done), the distance
  *      (a float at Give, else 0), and the count of asked. supply's out is 4 bytes: the count of asked */

@@ -26,3 +26,4 @@ pub mod digits;
 pub mod rerank;
 pub mod root;
 pub mod scalar;
+pub mod sums;

@@ -89,6 +89,27 @@ extern "C" {
         code_len: usize,
     ) -> u32;
 
+    // module 6, sums
+    pub fn lk_query_sum(dims: u32, query: *const u8, query_len: usize, out: *mut u8, out_len: usize) -> u32;
+    pub fn lk_code_sum(
+        dims: u32,
+        query: *const u8,
+        query_len: usize,
+        code: *const u8,
+        code_len: usize,
+        out: *mut u8,
+        out_len: usize,
+    ) -> u32;
+    pub fn lk_block_sums(
+        dims: u32,
+        query: *const u8,
+        query_len: usize,
+        block: *const u8,
+        block_len: usize,
+        out: *mut u8,
+        out_len: usize,
+    ) -> u32;
+
     // module 9, reranker
     pub fn lk_rerank_next(
         estimates: *const u8,

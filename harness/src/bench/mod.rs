@@ -9,6 +9,7 @@ mod digits;
 mod rerank;
 mod root;
 mod scalar;
+mod sums;
 
 use crate::upstream::detect::{levels, with, Level};
 use std::hint::black_box;
@@ -128,4 +129,5 @@ pub fn all(clock: &Clock) {
     rerank::run(clock);
     code::run(clock);
     block::run(clock);
+    sums::run(clock);
 }

@@ -10,6 +10,7 @@ mod digits;
 mod rerank;
 mod root;
 mod scalar;
+mod sums;
 
 use crate::refusal::{ACCEPTED, NAMES};
 use crate::rng::Rng;
@@ -39,6 +40,7 @@ pub fn calls() -> Vec<&'static Call> {
         rerank::CALLS,
         code::CALLS,
         block::CALLS,
+        sums::CALLS,
     ];
     parts.iter().copied().flatten().collect()
 }

@@ -4,3 +4,4 @@ mod block;
 mod code;
 mod rerank;
 mod scalar;
+mod sums;

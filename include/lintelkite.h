@@ -87,6 +87,20 @@ uint32_t lk_code_sum(uint32_t dims, const uint8_t *query, size_t query_len,
 uint32_t lk_block_sums(uint32_t dims, const uint8_t *query, size_t query_len,
                        const uint8_t *block, size_t block_len, uint8_t *out, size_t out_len);
 
+/* ---- module 7, estimates. out: one float, or for a block 32 floats, lane 0 first (128 bytes) */
+uint32_t lk_code_rough(uint32_t metric, uint32_t dims, float dis_v_2, float b, float k,
+                       const uint8_t *query, size_t query_len, const uint8_t *code, size_t code_len,
+                       uint8_t *out, size_t out_len);
+uint32_t lk_code_lower_bound(uint32_t metric, uint32_t dims, float dis_v_2, float b, float k,
+                             const uint8_t *query, size_t query_len, const uint8_t *code, size_t code_len,
+                             uint8_t *out, size_t out_len);
+uint32_t lk_block_rough(uint32_t metric, uint32_t dims, float dis_v_2, float b, float k,
+                        const uint8_t *query, size_t query_len, const uint8_t *block, size_t block_len,
+                        uint8_t *out, size_t out_len);
+uint32_t lk_block_lower_bounds(uint32_t metric, uint32_t dims, float dis_v_2, float b, float k,
+                               const uint8_t *query, size_t query_len, const uint8_t *block, size_t block_len,
+                               uint8_t *out, size_t out_len);
+
 /* ---- module 9, reranker. estimates and distances: 4 bytes a place, marks: 1 byte a place, one number of places
  *      from 0 to 4,096. next's out is 16 bytes: the answer (enum lk_answer), the place (0 when Done), the distance
  *      (a float at Give, else 0), and the count of asked. supply's out is 4 bytes: the count of asked */

@@ -23,6 +23,7 @@ pub mod upstream;
 pub mod block;
 pub mod code;
 pub mod digits;
+pub mod estimate;
 pub mod rerank;
 pub mod root;
 pub mod scalar;

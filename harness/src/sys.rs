@@ -110,6 +110,60 @@ extern "C" {
         out_len: usize,
     ) -> u32;
 
+    // module 7, estimates
+    pub fn lk_code_rough(
+        metric: u32,
+        dims: u32,
+        dis_v_2: f32,
+        b: f32,
+        k: f32,
+        query: *const u8,
+        query_len: usize,
+        code: *const u8,
+        code_len: usize,
+        out: *mut u8,
+        out_len: usize,
+    ) -> u32;
+    pub fn lk_code_lower_bound(
+        metric: u32,
+        dims: u32,
+        dis_v_2: f32,
+        b: f32,
+        k: f32,
+        query: *const u8,
+        query_len: usize,
+        code: *const u8,
+        code_len: usize,
+        out: *mut u8,
+        out_len: usize,
+    ) -> u32;
+    pub fn lk_block_rough(
+        metric: u32,
+        dims: u32,
+        dis_v_2: f32,
+        b: f32,
+        k: f32,
+        query: *const u8,
+        query_len: usize,
+        block: *const u8,
+        block_len: usize,
+        out: *mut u8,
+        out_len: usize,
+    ) -> u32;
+    pub fn lk_block_lower_bounds(
+        metric: u32,
+        dims: u32,
+        dis_v_2: f32,
+        b: f32,
+        k: f32,
+        query: *const u8,
+        query_len: usize,
+        block: *const u8,
+        block_len: usize,
+        out: *mut u8,
+        out_len: usize,
+    ) -> u32;
+
     // module 9, reranker
     pub fn lk_rerank_next(
         estimates: *const u8,

@@ -6,6 +6,7 @@
 mod block;
 mod code;
 mod digits;
+mod estimate;
 mod rerank;
 mod root;
 mod scalar;
@@ -130,4 +131,5 @@ pub fn all(clock: &Clock) {
     code::run(clock);
     block::run(clock);
     sums::run(clock);
+    estimate::run(clock);
 }

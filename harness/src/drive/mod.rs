@@ -7,6 +7,7 @@
 mod block;
 mod code;
 mod digits;
+mod estimate;
 mod rerank;
 mod root;
 mod scalar;
@@ -41,6 +42,7 @@ pub fn calls() -> Vec<&'static Call> {
         code::CALLS,
         block::CALLS,
         sums::CALLS,
+        estimate::CALLS,
     ];
     parts.iter().copied().flatten().collect()
 }

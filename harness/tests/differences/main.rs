@@ -2,6 +2,7 @@
 
 mod block;
 mod code;
+mod estimate;
 mod rerank;
 mod scalar;
 mod sums;

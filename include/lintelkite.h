@@ -101,6 +101,15 @@ uint32_t lk_block_lower_bounds(uint32_t metric, uint32_t dims, float dis_v_2, fl
                                const uint8_t *query, size_t query_len, const uint8_t *block, size_t block_len,
                                uint8_t *out, size_t out_len);
 
+/* ---- module 8, range walk. records: n single codes, or ceil(n / 32) blocks. ids: 4 bytes a place, bounds: 4 bytes
+ *      a place, marks: 1 byte a place, the same number of places in each, at most 4,096. count: a 32-bit number
+ *      (4 bytes), how many places were filled from the first on; the places after them stay as they were */
+uint32_t lk_walk(uint32_t metric, uint32_t layout, uint32_t dims, float dis_v_2, float b, float k,
+                 const uint8_t *query, size_t query_len, const uint8_t *records, size_t records_len,
+                 uint32_t n, uint32_t start, uint32_t end,
+                 uint8_t *ids, size_t ids_len, uint8_t *bounds, size_t bounds_len,
+                 uint8_t *marks, size_t marks_len, uint8_t *count, size_t count_len);
+
 /* ---- module 9, reranker. estimates and distances: 4 bytes a place, marks: 1 byte a place, one number of places
  *      from 0 to 4,096. next's out is 16 bytes: the answer (enum lk_answer), the place (0 when Done), the distance
  *      (a float at Give, else 0), and the count of asked. supply's out is 4 bytes: the count of asked */

@@ -28,3 +28,4 @@ pub mod rerank;
 pub mod root;
 pub mod scalar;
 pub mod sums;
+pub mod walk;

@@ -164,6 +164,31 @@ extern "C" {
         out_len: usize,
     ) -> u32;
 
+    // module 8, range walk
+    pub fn lk_walk(
+        metric: u32,
+        layout: u32,
+        dims: u32,
+        dis_v_2: f32,
+        b: f32,
+        k: f32,
+        query: *const u8,
+        query_len: usize,
+        records: *const u8,
+        records_len: usize,
+        n: u32,
+        start: u32,
+        end: u32,
+        ids: *mut u8,
+        ids_len: usize,
+        bounds: *mut u8,
+        bounds_len: usize,
+        marks: *mut u8,
+        marks_len: usize,
+        count: *mut u8,
+        count_len: usize,
+    ) -> u32;
+
     // module 9, reranker
     pub fn lk_rerank_next(
         estimates: *const u8,

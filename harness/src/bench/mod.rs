@@ -11,6 +11,7 @@ mod rerank;
 mod root;
 mod scalar;
 mod sums;
+mod walk;
 
 use crate::upstream::detect::{levels, with, Level};
 use std::hint::black_box;
@@ -132,4 +133,5 @@ pub fn all(clock: &Clock) {
     block::run(clock);
     sums::run(clock);
     estimate::run(clock);
+    walk::run(clock);
 }

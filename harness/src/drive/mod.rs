@@ -12,6 +12,7 @@ mod rerank;
 mod root;
 mod scalar;
 mod sums;
+mod walk;
 
 use crate::refusal::{ACCEPTED, NAMES};
 use crate::rng::Rng;
@@ -43,6 +44,7 @@ pub fn calls() -> Vec<&'static Call> {
         block::CALLS,
         sums::CALLS,
         estimate::CALLS,
+        walk::CALLS,
     ];
     parts.iter().copied().flatten().collect()
 }

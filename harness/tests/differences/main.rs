@@ -6,3 +6,4 @@ mod estimate;
 mod rerank;
 mod scalar;
 mod sums;
+mod walk;

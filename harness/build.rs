@@ -22,8 +22,20 @@ fn main() {
     if let Err(why) = fs::copy(&archive, out.join("liblintelkite.a")) {
         panic!("cannot read {}: {why}", archive.display());
     }
+    avx512();
     println!("cargo:rustc-link-search=native={}", out.display());
     println!("cargo:rustc-link-lib=static=lintelkite");
+}
+
+/// Rust 1.89 is the first that has the instructions of AVX-512: cfg(avx512) says that this one has them.
+fn avx512() {
+    println!("cargo:rustc-check-cfg=cfg(avx512)");
+    let version = Command::new(env::var_os("RUSTC").unwrap()).arg("--version").output().unwrap();
+    let version = String::from_utf8_lossy(&version.stdout).into_owned();
+    let minor = version.split('.').nth(1).and_then(|minor| minor.parse::<u32>().ok());
+    if minor.is_some_and(|minor| minor >= 89) {
+        println!("cargo:rustc-cfg=avx512");
+    }
 }
 
 fn build(root: &Path) -> PathBuf {

@@ -12,7 +12,8 @@
  * state of its own, so calls from several threads on buffers of their own are fine.
  * A NaN that a call works out is written as the pattern 0x7FC00000. Factors are copied bit for bit.
  *
- * Names of lengths below: W(bits, dims) = ceil(dims * bits / 8).
+ * Names of lengths below: W(bits, dims) = ceil(dims * bits / 8); C(dims) = 16 + 8 * ceil(dims / 64);
+ * B(dims) = 512 + 16 * ceil(dims / 4).
  */
 #ifndef LINTELKITE_H
 #define LINTELKITE_H
@@ -41,6 +42,8 @@ enum lk_answer { LK_DONE = 0, LK_ASK = 1, LK_GIVE = 2 };
 
 /* ---- sizes, for whoever makes the buffers: a 32-bit number in out (4 bytes) */
 uint32_t lk_digits_size(uint32_t dims, uint32_t bits, uint8_t *out, size_t out_len);         /* W(bits, dims) */
+uint32_t lk_code_size(uint32_t dims, uint8_t *out, size_t out_len);                          /* C(dims) */
+uint32_t lk_block_size(uint32_t dims, uint8_t *out, size_t out_len);                         /* B(dims) */
 
 /* ---- module 1, digits. codes: dims bytes, one code each. packed: W(bits, dims) */
 uint32_t lk_digits_pack(uint32_t dims, uint32_t bits, const uint8_t *codes, size_t codes_len,
@@ -48,6 +51,73 @@ uint32_t lk_digits_pack(uint32_t dims, uint32_t bits, const uint8_t *codes, size
 /* the code at index, as a 32-bit number in out (4 bytes) */
 uint32_t lk_digits_read(uint32_t dims, uint32_t bits, const uint8_t *packed, size_t packed_len,
                         uint32_t index, uint8_t *out, size_t out_len);
+
+/* ---- module 2, scalar quantizer. vector, min, max: dims floats each. code: W(bits, dims).
+ *      table: dims * 2^bits floats. out: one float */
+uint32_t lk_scalar_encode(uint32_t dims, uint32_t bits, const uint8_t *vector, size_t vector_len,
+                          const uint8_t *min, size_t min_len, const uint8_t *max, size_t max_len,
+                          uint8_t *code, size_t code_len);
+uint32_t lk_scalar_table(uint32_t metric, uint32_t dims, uint32_t bits, const uint8_t *vector, size_t vector_len,
+                         const uint8_t *min, size_t min_len, const uint8_t *max, size_t max_len,
+                         uint8_t *table, size_t table_len);
+uint32_t lk_scalar_distance(uint32_t metric, uint32_t dims, uint32_t bits, const uint8_t *table, size_t table_len,
+                            const uint8_t *code, size_t code_len, uint8_t *out, size_t out_len);
+
+/* ---- module 3, square root: one float in out */
+uint32_t lk_root(float x, uint8_t *out, size_t out_len);
+
+/* ---- module 4, single code. factors: dis_u_2, factor_ppc, factor_ip, factor_err (16 bytes). vector: dims floats.
+ *      code: C(dims) */
+uint32_t lk_code_encode(uint32_t dims, const uint8_t *factors, size_t factors_len,
+                        const uint8_t *vector, size_t vector_len, uint8_t *code, size_t code_len);
+/* the bit of dimension index, 0 or 1, as a 32-bit number in out (4 bytes); index at or past dims is OUT_OF_RANGE */
+uint32_t lk_code_bit(uint32_t dims, const uint8_t *code, size_t code_len, uint32_t index,
+                     uint8_t *out, size_t out_len);
+
+/* ---- module 5, block. codes: 32 single codes end to end, 32 * C(dims). block: B(dims) */
+uint32_t lk_block_pack(uint32_t dims, const uint8_t *codes, size_t codes_len, uint8_t *block, size_t block_len);
+uint32_t lk_block_lane(uint32_t dims, const uint8_t *block, size_t block_len, uint32_t lane,
+                       uint8_t *code, size_t code_len);
+
+/* ---- module 6, sums. query: dims bytes, codes of at most 15. A sum is a 32-bit number */
+uint32_t lk_query_sum(uint32_t dims, const uint8_t *query, size_t query_len, uint8_t *out, size_t out_len);
+uint32_t lk_code_sum(uint32_t dims, const uint8_t *query, size_t query_len,
+                     const uint8_t *code, size_t code_len, uint8_t *out, size_t out_len);
+/* 32 sums, lane 0 first: out is 128 bytes */
+uint32_t lk_block_sums(uint32_t dims, const uint8_t *query, size_t query_len,
+                       const uint8_t *block, size_t block_len, uint8_t *out, size_t out_len);
+
+/* ---- module 7, estimates. out: one float, or for a block 32 floats, lane 0 first (128 bytes) */
+uint32_t lk_code_rough(uint32_t metric, uint32_t dims, float dis_v_2, float b, float k,
+                       const uint8_t *query, size_t query_len, const uint8_t *code, size_t code_len,
+                       uint8_t *out, size_t out_len);
+uint32_t lk_code_lower_bound(uint32_t metric, uint32_t dims, float dis_v_2, float b, float k,
+                             const uint8_t *query, size_t query_len, const uint8_t *code, size_t code_len,
+                             uint8_t *out, size_t out_len);
+uint32_t lk_block_rough(uint32_t metric, uint32_t dims, float dis_v_2, float b, float k,
+                        const uint8_t *query, size_t query_len, const uint8_t *block, size_t block_len,
+                        uint8_t *out, size_t out_len);
+uint32_t lk_block_lower_bounds(uint32_t metric, uint32_t dims, float dis_v_2, float b, float k,
+                               const uint8_t *query, size_t query_len, const uint8_t *block, size_t block_len,
+                               uint8_t *out, size_t out_len);
+
+/* ---- module 8, range walk. records: n single codes, or ceil(n / 32) blocks. ids: 4 bytes a place, bounds: 4 bytes
+ *      a place, marks: 1 byte a place, the same number of places in each, at most 4,096. count: a 32-bit number
+ *      (4 bytes), how many places were filled from the first on; the places after them stay as they were */
+uint32_t lk_walk(uint32_t metric, uint32_t layout, uint32_t dims, float dis_v_2, float b, float k,
+                 const uint8_t *query, size_t query_len, const uint8_t *records, size_t records_len,
+                 uint32_t n, uint32_t start, uint32_t end,
+                 uint8_t *ids, size_t ids_len, uint8_t *bounds, size_t bounds_len,
+                 uint8_t *marks, size_t marks_len, uint8_t *count, size_t count_len);
+
+/* ---- module 9, reranker. estimates and distances: 4 bytes a place, marks: 1 byte a place, one number of places
+ *      from 0 to 4,096. next's out is 16 bytes: the answer (enum lk_answer), the place (0 when Done), the distance
+ *      (a float at Give, else 0), and the count of asked. supply's out is 4 bytes: the count of asked */
+uint32_t lk_rerank_next(const uint8_t *estimates, size_t estimates_len, const uint8_t *distances, size_t distances_len,
+                        uint8_t *marks, size_t marks_len, uint8_t *out, size_t out_len);
+uint32_t lk_rerank_supply(const uint8_t *estimates, size_t estimates_len, uint8_t *distances, size_t distances_len,
+                          uint8_t *marks, size_t marks_len, uint32_t place, float distance,
+                          uint8_t *out, size_t out_len);
 
 #ifdef __cplusplus
 }

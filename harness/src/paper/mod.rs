@@ -3,11 +3,34 @@
 //! An answer is the refusal number and the bytes of the writable buffer afterwards. Conditions stand in the order of
 //! their numbers, so the smallest is given.
 
+pub mod block;
+pub mod code;
 pub mod digits;
+pub mod estimate;
+pub mod rerank;
+pub mod root;
+pub mod scalar;
+pub mod sums;
+pub mod walk;
 
 use crate::refusal::ACCEPTED;
 
 /// A refusal keeps every byte; an accepted call leaves the bytes worked out.
 pub fn after(number: u32, old: &[u8], new: impl FnOnce() -> Vec<u8>) -> (u32, Vec<u8>) {
     (number, if number == ACCEPTED { new() } else { old.to_vec() })
+}
+
+/// The number of the first condition that holds. They are listed in the order of their numbers.
+pub fn first(conditions: &[(u32, &dyn Fn() -> bool)]) -> u32 {
+    conditions.iter().find(|(_, holds)| holds()).map_or(ACCEPTED, |(number, _)| *number)
+}
+
+/// "A NaN or infinity in a vector".
+pub fn missing(floats: &[u8]) -> bool {
+    crate::bytes::floats(floats).iter().any(|x| !x.is_finite())
+}
+
+/// "a metric not 1 (L2) or 2 (dot), a layout not 1 (single codes) or 2 (blocks)".
+pub fn neither_1_nor_2(number: u32) -> bool {
+    number != 1 && number != 2
 }

@@ -84,3 +84,8 @@ pub(crate) fn number(call: impl FnOnce(*mut u8, usize) -> u32) -> Result<u32, Re
     crate::refusal::judge(call(out.as_mut_ptr(), out.len()))?;
     Ok(u32::from_le_bytes(out))
 }
+
+/// A float that a call writes, and what the call says.
+pub(crate) fn float(call: impl FnOnce(*mut u8, usize) -> u32) -> Result<f32, Refusal> {
+    number(call).map(f32::from_bits)
+}

@@ -22,4 +22,45 @@ extern "C" {
         out: *mut u8,
         out_len: usize,
     ) -> u32;
+
+    // module 2, scalar quantizer
+    pub fn lk_scalar_encode(
+        dims: u32,
+        bits: u32,
+        vector: *const u8,
+        vector_len: usize,
+        min: *const u8,
+        min_len: usize,
+        max: *const u8,
+        max_len: usize,
+        code: *mut u8,
+        code_len: usize,
+    ) -> u32;
+    pub fn lk_scalar_table(
+        metric: u32,
+        dims: u32,
+        bits: u32,
+        vector: *const u8,
+        vector_len: usize,
+        min: *const u8,
+        min_len: usize,
+        max: *const u8,
+        max_len: usize,
+        table: *mut u8,
+        table_len: usize,
+    ) -> u32;
+    pub fn lk_scalar_distance(
+        metric: u32,
+        dims: u32,
+        bits: u32,
+        table: *const u8,
+        table_len: usize,
+        code: *const u8,
+        code_len: usize,
+        out: *mut u8,
+        out_len: usize,
+    ) -> u32;
+
+    // module 3, square root
+    pub fn lk_root(x: f32, out: *mut u8, out_len: usize) -> u32;
 }

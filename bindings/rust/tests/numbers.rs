@@ -1,6 +1,6 @@
 //! The numbers of this crate are those of include/lintelkite.h.
 
-use lintelkite::Refusal;
+use lintelkite::{Metric, Refusal};
 
 fn stands(entry: String) {
     let header = include_str!("../../../include/lintelkite.h");
@@ -14,4 +14,10 @@ fn refusals() {
         stands(format!("LK_{} = {}", refusal.name(), refusal.number()));
         assert_eq!(Refusal::of_number(refusal.number()), Some(refusal));
     }
+}
+
+#[test]
+fn metrics() {
+    stands(format!("LK_L2 = {}", Metric::L2.number()));
+    stands(format!("LK_DOT = {}", Metric::Dot.number()));
 }

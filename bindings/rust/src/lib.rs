@@ -11,6 +11,9 @@
 //! | [`digits`] | codes of 1, 2, 4 or 8 bits in bytes |
 //! | [`scalar`] | the scalar quantizer: a code for each dimension, a table for each query |
 //! | [`root()`] | the square root |
+//! | [`code`] | single codes: four factors and a bit for each dimension |
+//! | [`block`] | 32 single codes as one block |
+//! | [`sums`] | sums of query codes at set bits |
 //! | [`bytes`] | floats and little-endian bytes |
 //!
 //! The crate links liblintelkite.a into the program. It takes the archive that LINTELKITE_ARCHIVE names, or the one that
@@ -27,17 +30,21 @@
 
 #![deny(missing_docs)]
 
+pub mod block;
 pub mod bytes;
+pub mod code;
 pub mod digits;
 mod metric;
 mod refusal;
 mod root;
 pub mod scalar;
+pub mod sums;
 // The calls into `sys` are sound. A pointer and its length come from one slice that is borrowed for the call; what is
 // written is borrowed mutably, so it overlaps nothing. The functions take any numbers and bytes, keep no pointer, and
 // write within the lengths alone.
 mod sys;
 
+pub use code::Factors;
 pub use digits::Width;
 pub use metric::Metric;
 pub use refusal::Refusal;

@@ -3,6 +3,8 @@
 extern "C" {
     // sizes
     pub fn lk_digits_size(dims: u32, bits: u32, out: *mut u8, out_len: usize) -> u32;
+    pub fn lk_code_size(dims: u32, out: *mut u8, out_len: usize) -> u32;
+    pub fn lk_block_size(dims: u32, out: *mut u8, out_len: usize) -> u32;
 
     // module 1, digits
     pub fn lk_digits_pack(
@@ -63,4 +65,48 @@ extern "C" {
 
     // module 3, square root
     pub fn lk_root(x: f32, out: *mut u8, out_len: usize) -> u32;
+
+    // module 4, single code
+    pub fn lk_code_encode(
+        dims: u32,
+        factors: *const u8,
+        factors_len: usize,
+        vector: *const u8,
+        vector_len: usize,
+        code: *mut u8,
+        code_len: usize,
+    ) -> u32;
+    pub fn lk_code_bit(dims: u32, code: *const u8, code_len: usize, index: u32, out: *mut u8, out_len: usize) -> u32;
+
+    // module 5, block
+    pub fn lk_block_pack(dims: u32, codes: *const u8, codes_len: usize, block: *mut u8, block_len: usize) -> u32;
+    pub fn lk_block_lane(
+        dims: u32,
+        block: *const u8,
+        block_len: usize,
+        lane: u32,
+        code: *mut u8,
+        code_len: usize,
+    ) -> u32;
+
+    // module 6, sums
+    pub fn lk_query_sum(dims: u32, query: *const u8, query_len: usize, out: *mut u8, out_len: usize) -> u32;
+    pub fn lk_code_sum(
+        dims: u32,
+        query: *const u8,
+        query_len: usize,
+        code: *const u8,
+        code_len: usize,
+        out: *mut u8,
+        out_len: usize,
+    ) -> u32;
+    pub fn lk_block_sums(
+        dims: u32,
+        query: *const u8,
+        query_len: usize,
+        block: *const u8,
+        block_len: usize,
+        out: *mut u8,
+        out_len: usize,
+    ) -> u32;
 }

@@ -1,0 +1,58 @@
+//! Each function refuses with the number that its input earns, and leaves what it was lent as it was.
+
+use lintelkite::Refusal::{self, *};
+use lintelkite::{block, code, sums, Factors};
+
+const HUGE: usize = 1 << 40;
+
+fn refused<T: std::fmt::Debug>(said: Result<T, Refusal>, why: Refusal) {
+    assert_eq!(said.unwrap_err(), why);
+}
+
+#[test]
+fn codes() {
+    refused(code::size(0), BadDims);
+    refused(code::size(4370), BadDims);
+    refused(code::encode(Factors::default(), &[]), BadDims);
+    refused(code::encode(Factors::default(), &[1.0, f32::INFINITY]), Missing);
+    let mut lent = [0xEE; 32];
+    refused(code::encode_into(Factors::default(), &[f32::NAN; 64], &mut lent), BadLength);
+    assert_eq!(lent, [0xEE; 32]);
+    refused(code::bit(64, &[0; 23], 0), BadLength);
+    refused(code::bit(63, &[0; 24], 63), OutOfRange);
+    refused(code::bit(63, &[0; 24], HUGE), OutOfRange);
+}
+
+#[test]
+fn factors_keep_their_bits() {
+    let bits = [0x7FC0_0001, 0x7F80_0001, 0xFFFF_FFFF, 0x8000_0000].map(f32::from_bits);
+    let factors = Factors { dis_u_2: bits[0], factor_ppc: bits[1], factor_ip: bits[2], factor_err: bits[3] };
+    let code = code::encode(factors, &[-1.0]).unwrap();
+    assert_eq!(code[..16], factors.to_bytes());
+    let read = Factors::of_code(&code).unwrap();
+    assert_eq!(read.to_bytes(), factors.to_bytes());
+}
+
+#[test]
+fn blocks() {
+    refused(block::size(4370), BadDims);
+    refused(block::pack(0, &[]), BadDims);
+    refused(block::pack(1, &[0; 31 * 24]), BadLength);
+    refused(block::lane(1, &[0; 529], 0), BadLength);
+    refused(block::lane(1, &[0; 528], 32), OutOfRange);
+    let mut lent = [0xEE; 527];
+    refused(block::pack_into(1, &[0; 32 * 24], &mut lent), BadLength);
+    assert_eq!(lent, [0xEE; 527]);
+}
+
+#[test]
+fn sums_of_queries() {
+    refused(sums::query_sum(&[]), BadDims);
+    refused(sums::query_sum(&[0; 4370]), BadDims);
+    refused(sums::query_sum(&[15, 16]), BadValue);
+    refused(sums::code_sum(&[15, 15], &[0; 23]), BadLength);
+    refused(sums::code_sum(&[15, 16], &[0; 24]), BadValue);
+    refused(sums::block_sums(&[15, 15], &[0; 527]), BadLength);
+    refused(sums::block_sums(&[15, 16], &[0; 528]), BadValue);
+    assert_eq!(sums::query_sum(&[15; 4369]), Ok(65_535));
+}

@@ -73,6 +73,11 @@ pub fn to_floats_into(bytes: &[u8], floats: &mut [f32]) -> Result<(), Refusal> {
     Ok(())
 }
 
+/// The bytes of some numbers, to be written.
+pub(crate) fn of_numbers_mut(numbers: &mut [u32]) -> &mut [u8] {
+    unsafe { slice::from_raw_parts_mut(numbers.as_mut_ptr().cast(), mem::size_of_val(numbers)) }
+}
+
 /// A slice's length as dims. A length that 32 bits cannot hold is above every limit.
 pub(crate) fn dims_of(len: usize) -> u32 {
     u32::try_from(len).unwrap_or(u32::MAX)

@@ -14,6 +14,8 @@
 //! | [`code`] | single codes: four factors and a bit for each dimension |
 //! | [`block`] | 32 single codes as one block |
 //! | [`sums`] | sums of query codes at set bits |
+//! | [`estimate`] | estimates and lower bounds, for a single code or 32 at once |
+//! | [`walk`] | the lower bounds of a range of records |
 //! | [`bytes`] | floats and little-endian bytes |
 //!
 //! The crate links liblintelkite.a into the program. It takes the archive that LINTELKITE_ARCHIVE names, or the one that
@@ -34,6 +36,8 @@ pub mod block;
 pub mod bytes;
 pub mod code;
 pub mod digits;
+pub mod estimate;
+mod mark;
 mod metric;
 mod refusal;
 mod root;
@@ -43,9 +47,13 @@ pub mod sums;
 // written is borrowed mutably, so it overlaps nothing. The functions take any numbers and bytes, keep no pointer, and
 // write within the lengths alone.
 mod sys;
+pub mod walk;
 
 pub use code::Factors;
 pub use digits::Width;
+pub use estimate::Query;
+pub use mark::Mark;
 pub use metric::Metric;
 pub use refusal::Refusal;
 pub use root::root;
+pub use walk::{Candidates, Layout, Records};

@@ -109,4 +109,83 @@ extern "C" {
         out: *mut u8,
         out_len: usize,
     ) -> u32;
+
+    // module 7, estimates
+    pub fn lk_code_rough(
+        metric: u32,
+        dims: u32,
+        dis_v_2: f32,
+        b: f32,
+        k: f32,
+        query: *const u8,
+        query_len: usize,
+        code: *const u8,
+        code_len: usize,
+        out: *mut u8,
+        out_len: usize,
+    ) -> u32;
+    pub fn lk_code_lower_bound(
+        metric: u32,
+        dims: u32,
+        dis_v_2: f32,
+        b: f32,
+        k: f32,
+        query: *const u8,
+        query_len: usize,
+        code: *const u8,
+        code_len: usize,
+        out: *mut u8,
+        out_len: usize,
+    ) -> u32;
+    pub fn lk_block_rough(
+        metric: u32,
+        dims: u32,
+        dis_v_2: f32,
+        b: f32,
+        k: f32,
+        query: *const u8,
+        query_len: usize,
+        block: *const u8,
+        block_len: usize,
+        out: *mut u8,
+        out_len: usize,
+    ) -> u32;
+    pub fn lk_block_lower_bounds(
+        metric: u32,
+        dims: u32,
+        dis_v_2: f32,
+        b: f32,
+        k: f32,
+        query: *const u8,
+        query_len: usize,
+        block: *const u8,
+        block_len: usize,
+        out: *mut u8,
+        out_len: usize,
+    ) -> u32;
+
+    // module 8, range walk
+    pub fn lk_walk(
+        metric: u32,
+        layout: u32,
+        dims: u32,
+        dis_v_2: f32,
+        b: f32,
+        k: f32,
+        query: *const u8,
+        query_len: usize,
+        records: *const u8,
+        records_len: usize,
+        n: u32,
+        start: u32,
+        end: u32,
+        ids: *mut u8,
+        ids_len: usize,
+        bounds: *mut u8,
+        bounds_len: usize,
+        marks: *mut u8,
+        marks_len: usize,
+        count: *mut u8,
+        count_len: usize,
+    ) -> u32;
 }

@@ -1,6 +1,6 @@
 //! The numbers of this crate are those of include/lintelkite.h.
 
-use lintelkite::{Metric, Refusal};
+use lintelkite::{Layout, Mark, Metric, Refusal};
 
 fn stands(entry: String) {
     let header = include_str!("../../../include/lintelkite.h");
@@ -20,4 +20,13 @@ fn refusals() {
 fn metrics() {
     stands(format!("LK_L2 = {}", Metric::L2.number()));
     stands(format!("LK_DOT = {}", Metric::Dot.number()));
+}
+
+#[test]
+fn layouts_and_marks() {
+    stands(format!("LK_SINGLE = {}", Layout::Single.number()));
+    stands(format!("LK_BLOCKS = {}", Layout::Blocks.number()));
+    stands(format!("LK_WAITING = {}", Mark::Waiting.number()));
+    stands(format!("LK_ASKED = {}", Mark::Asked.number()));
+    stands(format!("LK_GIVEN = {}", Mark::Given.number()));
 }

@@ -1,7 +1,8 @@
 //! Each function refuses with the number that its input earns, and leaves what it was lent as it was.
 
+use lintelkite::estimate::{block_lower_bounds, block_rough, code_lower_bound, code_rough};
 use lintelkite::Refusal::{self, *};
-use lintelkite::{block, code, sums, Factors};
+use lintelkite::{block, code, sums, Factors, Metric, Query};
 
 const HUGE: usize = 1 << 40;
 
@@ -55,4 +56,28 @@ fn sums_of_queries() {
     refused(sums::block_sums(&[15, 15], &[0; 527]), BadLength);
     refused(sums::block_sums(&[15, 16], &[0; 528]), BadValue);
     assert_eq!(sums::query_sum(&[15; 4369]), Ok(65_535));
+}
+
+#[test]
+fn estimates() {
+    let good = Query { dis_v_2: 4.0, b: 0.0, k: 1.0, codes: &[1, 15] };
+    for (query, why) in [
+        (Query { codes: &[], ..good }, BadDims),
+        (Query { codes: &[0; 65], ..good }, BadLength),
+        (Query { dis_v_2: f32::NEG_INFINITY, ..good }, Missing),
+        (Query { b: f32::NAN, ..good }, Missing),
+        (Query { k: f32::INFINITY, ..good }, Missing),
+        (Query { dis_v_2: -1.0, ..good }, BadValue),
+        (Query { codes: &[1, 16], ..good }, BadValue),
+    ] {
+        for metric in [Metric::L2, Metric::Dot] {
+            refused(code_rough(metric, &query, &[0; 24]), why);
+            refused(code_lower_bound(metric, &query, &[0; 24]), why);
+            refused(block_rough(metric, &query, &[0; 528]), why);
+            refused(block_lower_bounds(metric, &query, &[0; 528]), why);
+        }
+    }
+    let no_bound = code::encode(Factors { factor_err: f32::NAN, ..Factors::default() }, &[1.0, 1.0]).unwrap();
+    assert!(code_rough(Metric::L2, &good, &no_bound).is_ok());
+    refused(code_lower_bound(Metric::L2, &good, &no_bound), NoEstimate);
 }

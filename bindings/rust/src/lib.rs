@@ -16,17 +16,33 @@
 //! | [`sums`] | sums of query codes at set bits |
 //! | [`estimate`] | estimates and lower bounds, for a single code or 32 at once |
 //! | [`walk`] | the lower bounds of a range of records |
+//! | [`rerank`] | candidates handed out by exact distance |
 //! | [`bytes`] | floats and little-endian bytes |
 //!
 //! The crate links liblintelkite.a into the program. It takes the archive that LINTELKITE_ARCHIVE names, or the one that
 //! `make install` put under LINTELKITE_PREFIX; inside the repository, where neither is set, it has `rt` build it.
 //!
-//! ```
-//! use lintelkite::{digits, Width};
+//! A search from end to end:
 //!
-//! let packed = digits::pack(Width::Two, &[1, 2, 3, 0, 1])?;
-//! assert_eq!(packed, [0x39, 0x01]);
-//! assert_eq!(digits::read(Width::Two, 5, &packed, 2)?, 3);
+//! ```
+//! use lintelkite::{block, code, walk, Factors, Layout, Metric, Query, Records, Search};
+//!
+//! // 32 records of four dimensions; record i has i as the square of its length.
+//! let mut codes = Vec::new();
+//! for i in 0..32 {
+//!     let factors = Factors { dis_u_2: i as f32, ..Factors::default() };
+//!     codes.extend(code::encode(factors, &[1.0, -1.0, 1.0, -1.0])?);
+//! }
+//! let records = Records { layout: Layout::Blocks, bytes: &block::pack(4, &codes)?, n: 32 };
+//!
+//! let query = Query { dis_v_2: 2.0, b: 0.0, k: 1.0, codes: &[1, 0, 0, 1] };
+//! let found = walk::walk(Metric::L2, &query, &records, 0..32)?;
+//!
+//! // Each exact distance costs a read: here it is the bound and 1.5 more.
+//! let mut search = Search::new(found)?;
+//! let nearest = search.next_hit(|id| id as f32 + 3.5)?.unwrap();
+//! assert_eq!((nearest.id, nearest.distance), (0, 3.5));
+//! assert_eq!(search.asked(), 2);
 //! # Ok::<(), lintelkite::Refusal>(())
 //! ```
 
@@ -40,6 +56,7 @@ pub mod estimate;
 mod mark;
 mod metric;
 mod refusal;
+pub mod rerank;
 mod root;
 pub mod scalar;
 pub mod sums;
@@ -55,5 +72,6 @@ pub use estimate::Query;
 pub use mark::Mark;
 pub use metric::Metric;
 pub use refusal::Refusal;
+pub use rerank::{Answer, Hit, Search, Step};
 pub use root::root;
 pub use walk::{Candidates, Layout, Records};

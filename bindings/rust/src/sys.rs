@@ -188,4 +188,28 @@ extern "C" {
         count: *mut u8,
         count_len: usize,
     ) -> u32;
+
+    // module 9, reranker
+    pub fn lk_rerank_next(
+        estimates: *const u8,
+        estimates_len: usize,
+        distances: *const u8,
+        distances_len: usize,
+        marks: *mut u8,
+        marks_len: usize,
+        out: *mut u8,
+        out_len: usize,
+    ) -> u32;
+    pub fn lk_rerank_supply(
+        estimates: *const u8,
+        estimates_len: usize,
+        distances: *mut u8,
+        distances_len: usize,
+        marks: *mut u8,
+        marks_len: usize,
+        place: u32,
+        distance: f32,
+        out: *mut u8,
+        out_len: usize,
+    ) -> u32;
 }

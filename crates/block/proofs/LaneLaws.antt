@@ -1,5 +1,5 @@
 -- What a block has of a lane: its nibbles and its bits. Assumes nothing.
-use mathlib.Core.Path.{_≡_, refl, sym, ap, ap₂, _∙_}
+use mathlib.Core.Path.{_≡_, sym, ap, ap₂, _∙_}
 use Prim.Native.Nat.{ℕ, _+_, _*_, _/_, _%_, _^_, _-_, _<_, _≤_, min}
 use mathlib.Core.List.{List}
 use mathlib.Core.Logic.{⊎-elim}

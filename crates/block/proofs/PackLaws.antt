@@ -1,11 +1,10 @@
 -- A block built from single codes: what each byte is of the codes' bytes. Assumes nothing.
-use mathlib.Core.Path.{_≡_, refl, sym, ap, ap₂, _∙_}
+use mathlib.Core.Path.{_≡_, sym, ap, ap₂, _∙_}
 use mathlib.Core.Logic.{⊎-elim}
 use Prim.Native.Nat.{ℕ, _+_, _-_, _*_, _/_, _%_, _^_, _<_, _≤_, min}
 use mathlib.Core.List.{List}
 use native.Mathlib.Omega.{arith}
-use native.Mathlib.Nat.{div-one, mod-eq-of-lt}
-use lib.ListN.{length, getD, take, drop}
+use lib.ListN.{getD, drop}
 use lib.Seq.{getD-take, getD-drop}
 use borrow.Author.Tests.{lt-ltb, le-ltb}
 use Rattle.words.specs.Digits.{bit, join, kept}
@@ -63,11 +62,12 @@ pub packed-factor : (dims : ℕ) (codes : List ℕ) (i : ℕ) → i < 512
 unfolding packedByte blockByte
 packed-factor dims codes i l = rw (lt-ltb i 512 l) (at-code dims codes (i % 128 / 4) (4 * (i / 128) + i % 4) (omega arith))
 
-pub packed-group : (dims : ℕ) (codes : List ℕ) (g j : ℕ) → j < 16
-    → packedByte dims codes (512 + 16 * g + j) ≡ groupByte dims (λ k. codeBit (codeAt dims codes k)) g j
-unfolding packedByte blockByte
-packed-group dims codes g j l =
+pub packed-group : (dims : ℕ) (codes : List ℕ) (g j low high : ℕ) → j < 16 → low ≡ groupNibble dims (λ k. codeBit (codeAt dims codes k)) g j
+    → high ≡ groupNibble dims (λ k. codeBit (codeAt dims codes k)) g (j + 16) → low + 16 * high ≡ packedByte dims codes (512 + 16 * g + j)
+unfolding packedByte blockByte groupByte
+packed-group dims codes g j low high l e f =
     let past : 512 ≤ 512 + 16 * g + j = omega arith in
     let group : (512 + 16 * g + j - 512) / 16 ≡ g = omega arith in
     let lane : (512 + 16 * g + j - 512) % 16 ≡ j = omega arith in
-    rw (le-ltb (512 + 16 * g + j) 512 past) (ap₂ (groupByte dims (λ k. codeBit (codeAt dims codes k))) group lane)
+    ap₂ (λ (x y : ℕ). x + 16 * y) e f
+    ∙ sym (rw (le-ltb (512 + 16 * g + j) 512 past) (ap₂ (groupByte dims (λ k. codeBit (codeAt dims codes k))) group lane))

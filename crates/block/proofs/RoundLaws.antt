@@ -2,21 +2,19 @@
 -- its pad bits 0. Assumes nothing.
 use mathlib.Core.Path.{_≡_, refl, sym, ap, ap₂, _∙_}
 use mathlib.Core.Logic.{⊎-elim}
-use Prim.Native.Nat.{ℕ, zero, suc, _+_, _-_, _*_, _/_, _%_, _^_, _<_, _≤_}
-use mathlib.Core.List.{List, [], _++_}
+use Prim.Native.Nat.{ℕ, _+_, _-_, _*_, _/_, _%_, _<_, _≤_}
+use mathlib.Core.List.{List}
 use native.Mathlib.Omega.{arith}
-use native.Mathlib.Nat.{eq-or-lt-of-le, le-of-suc-le-suc, not-suc-le-zero, mul-le-mul-right, mod-eq-of-lt, zero-mul, suc-mul}
-use lib.ListN.{length, getD, take, drop, length-append, length-drop}
-use lib.Seq.{take-all, take-append-le, drop-append-le, drop-at, getD-take}
+use lib.ListN.{length, getD}
 use borrow.Author.Tests.{lt-ltb, le-ltb}
-use Rattle.words.specs.Digits.{bit, join, kept}
-use Rattle.words.specs.Lists.{tabulate, joined}
+use Rattle.words.specs.Digits.{bit, kept}
+use Rattle.words.specs.Lists.{joined}
 use Rattle.words.proofs.ListLaws.{joined-at, tabulate-at, tabulate-ext, filled}
 use Rattle.words.proofs.DigitLaws.{lt-or-ge, kept-in, kept-lt, kept-ext, bits-lt, join-ext, bit-join}
-use Rattle.code.specs.Code.{codeSize, codeBit, codeByte, codeOf, clearedCode}
+use Rattle.code.specs.Code.{codeSize, codeBit, codeOf, clearedCode}
 use Rattle.code.proofs.CodeLaws.{code-bit-lt, join-whole, code-ext, length-code, factor-of-code, bit-of-code, made-cleared}
 use Rattle.block.specs.Block.{blockGroups, blockSize, laneFactor, laneNibble, laneBit, laneCode, groupNibble, groupByte, blockByte, blockOf}
-use Rattle.block.specs.Block.{codeAt, packedByte, packed, clearedBlock, lanesOf}
+use Rattle.block.specs.Block.{codeAt, packed, clearedBlock, lanesOf}
 use Rattle.block.proofs.LaneLaws.{lane-bit-lt, lane-bit-at, nibble-lt, nibble-low, nibble-high}
 
 -- ---- a block made of factor bytes and bits

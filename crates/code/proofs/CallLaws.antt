@@ -3,7 +3,6 @@ use Prim.Native.Nat.{ℕ, _*_, _<_, _≤_}
 use mathlib.Core.Bool.{true, false, _||_}
 use mathlib.Core.List.{List}
 use mathlib.Core.Path.{_≡_, refl}
-use lib.Dec.{leb}
 use lib.ListN.{getD}
 use borrow.Author.Tests.{le-leb, lt-leb}
 use Rattle.words.specs.Bytes.{bytesOf}

@@ -1,11 +1,18 @@
 // The C boundary of include/lintelkite.h, in the header's order. Each function forwards to its module's call and makes its promise.
 ghost use mathlib.Core.Path.{_≡_};
 ghost use Rattle.digits.specs.Calls as digits;
+ghost use Rattle.scalar.specs.Calls as scalar;
 ghost use Rattle.root.specs.Calls as root;
 ghost use Rattle.code.specs.Calls as single;
 ghost use Rattle.block.specs.Calls as blocks;
-ghost use Rattle.scalar.specs.Calls as scalar;
+ghost use Rattle.sums.specs.Calls as sums;
+ghost use Rattle.estimate.specs.declared.Asked.the-variants.{Rough, LowerBound};
+ghost use Rattle.estimate.specs.Estimate.{queryOf};
+ghost use Rattle.estimate.specs.Calls as estimates;
+ghost use Rattle.walk.specs.Walk as walks;
 ghost use Rattle.rerank.specs.Calls as rerank;
+use estimate::Asked;
+use estimate::Query;
 
 // ---- sizes
 
@@ -136,6 +143,140 @@ pub extern "C" fn lk_block_lane(dims: u32, block: &[u8], lane: u32, code: &mut [
     ensures { λ r. ⌜ (r, now (code .exit)) ≡ blocks.laneAnswer dims (now (block .entry)) lane (now (code .entry)) ⌝ }
 {
     block::block_lane(dims, block, lane, code)
+}
+
+// ---- module 6, sums
+
+#[no_mangle]
+pub extern "C" fn lk_query_sum(dims: u32, query: &[u8], out: &mut [u8]) -> u32
+    ensures { λ r. ⌜ (r, now (out .exit)) ≡ sums.querySumAnswer dims (now (query .entry)) (now (out .entry)) ⌝ }
+{
+    sums::query_sum(dims, query, out)
+}
+
+#[no_mangle]
+pub extern "C" fn lk_code_sum(dims: u32, query: &[u8], code: &[u8], out: &mut [u8]) -> u32
+    ensures { λ r. ⌜ (r, now (out .exit)) ≡ sums.codeSumAnswer dims (now (query .entry)) (now (code .entry)) (now (out .entry)) ⌝ }
+{
+    sums::code_sum(dims, query, code, out)
+}
+
+#[no_mangle]
+pub extern "C" fn lk_block_sums(dims: u32, query: &[u8], block: &[u8], out: &mut [u8]) -> u32
+    ensures { λ r. ⌜ (r, now (out .exit)) ≡ sums.blockSumsAnswer dims (now (query .entry)) (now (block .entry)) (now (out .entry)) ⌝ }
+{
+    sums::block_sums(dims, query, block, out)
+}
+
+// ---- module 7, estimates
+
+#[no_mangle]
+pub extern "C" fn lk_code_rough(
+    metric: u32,
+    dims: u32,
+    dis_v_2: f32,
+    b: f32,
+    k: f32,
+    query: &[u8],
+    code: &[u8],
+    out: &mut [u8],
+) -> u32
+    ensures { λ r. ⌜ (r, now (out .exit)) ≡ estimates.codeAnswer Rough metric dims (queryOf «dis_v_2» b k) (now (query .entry)) (now (code .entry)) (now (out .entry)) ⌝ }
+{
+    let v = Query { dis_v_2, b, k };
+    estimate::code_call(Asked::Rough, metric, dims, v, query, code, out)
+}
+
+#[no_mangle]
+pub extern "C" fn lk_code_lower_bound(
+    metric: u32,
+    dims: u32,
+    dis_v_2: f32,
+    b: f32,
+    k: f32,
+    query: &[u8],
+    code: &[u8],
+    out: &mut [u8],
+) -> u32
+    ensures { λ r. ⌜ (r, now (out .exit)) ≡ estimates.codeAnswer LowerBound metric dims (queryOf «dis_v_2» b k) (now (query .entry)) (now (code .entry)) (now (out .entry)) ⌝ }
+{
+    let v = Query { dis_v_2, b, k };
+    estimate::code_call(Asked::LowerBound, metric, dims, v, query, code, out)
+}
+
+#[no_mangle]
+pub extern "C" fn lk_block_rough(
+    metric: u32,
+    dims: u32,
+    dis_v_2: f32,
+    b: f32,
+    k: f32,
+    query: &[u8],
+    block: &[u8],
+    out: &mut [u8],
+) -> u32
+    ensures { λ r. ⌜ (r, now (out .exit)) ≡ estimates.blockAnswer Rough metric dims (queryOf «dis_v_2» b k) (now (query .entry)) (now (block .entry)) (now (out .entry)) ⌝ }
+{
+    let v = Query { dis_v_2, b, k };
+    estimate::block_call(Asked::Rough, metric, dims, v, query, block, out)
+}
+
+#[no_mangle]
+pub extern "C" fn lk_block_lower_bounds(
+    metric: u32,
+    dims: u32,
+    dis_v_2: f32,
+    b: f32,
+    k: f32,
+    query: &[u8],
+    block: &[u8],
+    out: &mut [u8],
+) -> u32
+    ensures { λ r. ⌜ (r, now (out .exit)) ≡ estimates.blockAnswer LowerBound metric dims (queryOf «dis_v_2» b k) (now (query .entry)) (now (block .entry)) (now (out .entry)) ⌝ }
+{
+    let v = Query { dis_v_2, b, k };
+    estimate::block_call(Asked::LowerBound, metric, dims, v, query, block, out)
+}
+
+// ---- module 8, range walk
+
+#[no_mangle]
+pub extern "C" fn lk_walk(
+    metric: u32,
+    layout: u32,
+    dims: u32,
+    dis_v_2: f32,
+    b: f32,
+    k: f32,
+    query: &[u8],
+    records: &[u8],
+    n: u32,
+    start: u32,
+    end: u32,
+    ids: &mut [u8],
+    bounds: &mut [u8],
+    marks: &mut [u8],
+    count: &mut [u8],
+) -> u32
+    ensures { λ r. ⌜ (r, now (ids .exit), now (bounds .exit), now (marks .exit), now (count .exit))
+        ≡ walks.walkAnswer metric layout dims (queryOf «dis_v_2» b k) (now (query .entry)) (now (records .entry)) n start end (now (ids .entry)) (now (bounds .entry)) (now (marks .entry)) (now (count .entry)) ⌝ }
+{
+    let v = Query { dis_v_2, b, k };
+    walk::walk(
+        metric,
+        layout,
+        dims,
+        v,
+        query,
+        records,
+        n,
+        start,
+        end,
+        ids,
+        bounds,
+        marks,
+        count,
+    )
 }
 
 // ---- module 9, reranker

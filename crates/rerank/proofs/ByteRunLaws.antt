@@ -1,32 +1,31 @@
 -- The calls over bytes make runs of the rule. Assumes nothing.
 use mathlib.Core.Path.{_≡_, refl, sym, subst, ap, _∙_}
-use mathlib.Core.Bool.{Bool, true, false, _||_, cond}
-use mathlib.Core.List.{List, [], _∷_, _++_}
-use Prim.Native.Nat.{ℕ, zero, suc, _+_, _*_, _^_, _<_, _≤_}
+use mathlib.Core.Bool.{Bool, false, _||_, cond}
+use mathlib.Core.List.{List, [], _∷_}
+use Prim.Native.Nat.{ℕ, zero, suc, _*_, _^_, _<_}
 use native.Mathlib.Omega.{arith}
 use borrow.Author.Tests.{ne-eqb}
 use lib.Dec.{T, eqb}
 use lib.ListN.{length, getD, take, set, length-set}
 use lib.Seq.{sets}
-use lib.Ieee.{Float, isNan, fits, ofBits, toBits, binary32}
-use lib.Ieee.Bits.{ofBits-toBits, toBits-lt, ofBits-fits, toBits-ofBits}
+use lib.Ieee.{Float, fits, ofBits, binary32}
+use lib.Ieee.Bits.{ofBits-toBits, toBits-lt, ofBits-fits}
 use Rattle.words.specs.Bytes.{numAt, bytesOf, wordsOf, f32At, floatBytes}
-use Rattle.words.specs.Limits.{mostPlaces}
 use Rattle.words.specs.Lists.{joined}
 use Rattle.words.specs.Refusals.{after, badLength}
-use Rattle.words.specs.Sums.{sumTo}
 use Rattle.words.proofs.ByteLaws.{num-bytes}
 use Rattle.words.proofs.RefusalLaws.{no-row, neither, after-accepted}
-use Rattle.words.proofs.SumLaws.{sum-le}
-use Rattle.words.proofs.WordsLaws.{num-words, length-wordsOf}
-use Rattle.rerank.specs.Rerank.{State, answer, nextRefusal, supplyRefusal, given, supplied, oneOrTwo, counted, Event, asked, supply, gave, done, Accepted, then, ran, Run}
-use Rattle.rerank.specs.Calls.{stateOf, badLists, answerNumber, answerPlace, answerBits, answerMarks, answerBytes, nextNumber, nextAnswer, supplyNumber, supplyAnswer}
-use Rattle.rerank.specs.Demand.{Lists, Call, next, supplies, held, Answered, call, told, seen, reported, left, heard, notWaiting}
+use Rattle.words.proofs.WordsLaws.{num-words}
+use Rattle.rerank.specs.Rerank.{State, answer, nextRefusal, supplyRefusal, supplied, counted, Event, asked, supply, gave, done, Accepted}
+use Rattle.rerank.specs.Rerank.{then, ran, Run}
+use Rattle.rerank.specs.Calls.{stateOf, badLists, answerNumber, answerPlace, answerBits, answerMarks, answerBytes, nextNumber, nextAnswer, supplyNumber}
+use Rattle.rerank.specs.Calls.{supplyAnswer}
+use Rattle.rerank.specs.Demand.{Lists, Call, next, supplies, held, call, told, seen, reported, left, heard, notWaiting}
 use Rattle.rerank.specs.declared.Answer.{Answer}
 use Rattle.rerank.specs.declared.Answer.the-variants.{Ask, Give, Done}
 use Rattle.rerank.proofs.RuleLaws.{Clean, next-clean, means}
-use Rattle.rerank.proofs.RunLaws.{Giving, giving, Supplying, supplying, run-join, ran-join, clean-then, then-estimate}
-use Rattle.rerank.proofs.TallyLaws.{counted-is}
+use Rattle.rerank.proofs.RunLaws.{giving, supplying, run-join, ran-join, clean-then, then-estimate}
+use Rattle.rerank.proofs.TallyLaws.{counted-few, counted-is}
 use Rattle.rerank.proofs.ScanLaws.{Sized, sized-of}
 use Rattle.rerank.proofs.StateLaws.{state-given, state-supplied}
 
@@ -93,7 +92,9 @@ module _ (e d m out : List ℕ) (z : nextNumber e d m out ≡ 0) where
 
   distance-fits : (p : ℕ) (x : Float) → answer (stateOf e d m) ≡ Give p x → T (fits binary32 x)
   unfolding f32At
-  distance-fits p x h = subst (λ (y : Float). T (fits binary32 y)) (sym (giving (stateOf e d m) p x (next-ok, h) .1 .value)) (ofBits-fits binary32 (numAt 4 d (4 * p)))
+  distance-fits p x h =
+      let g = giving (stateOf e d m) p x (next-ok, h) in
+      subst (λ (y : Float). T (fits binary32 y)) (sym (g .1 .value)) (ofBits-fits binary32 (numAt 4 d (4 * p)))
 
   -- the event is accepted, and the lists hold the state after it
   accepted-is : (a : Answer) → answer (stateOf e d m) ≡ a → Accepted (stateOf e d m) (eventOf a)
@@ -111,7 +112,9 @@ module _ (e d m out : List ℕ) (z : nextNumber e d m out ≡ 0) where
 module _ (e d m : List ℕ) (p bits : ℕ) (out : List ℕ) (z : supplyNumber e d m p (ofBits binary32 bits) out ≡ 0) where
   supply-rows : (badLists e d m ≡ false) × (supplyRefusal (stateOf e d m) p (ofBits binary32 bits) ≡ 0)
   supply-rows =
-      let a = lists-even (supplyNumber e d m p (ofBits binary32 bits) out) (badLists e d m || badLength out 4) (supplyRefusal (stateOf e d m) p (ofBits binary32 bits)) (unfold supplyNumber in refl) z in
+      let x = ofBits binary32 bits in
+      let rest = supplyRefusal (stateOf e d m) p x in
+      let a = lists-even (supplyNumber e d m p x out) (badLists e d m || badLength out 4) rest (unfold supplyNumber in refl) z in
       (neither (badLists e d m) (badLength out 4) (a .0) .0, a .1)
 
   supply-sized : Sized e d m
@@ -159,10 +162,12 @@ next-adds b out = go (nextNumber e d m out) refl
         → Adds (record { estimates = e; distances = d; marks = after n m (answerMarks a m) }) (held b) (cond (eqb n 0) (told (after n out new) ∷ []) [])
     go zero z =
         adds-one (record { estimates = e; distances = d; marks = answerMarks a m }) (held b) (eventOf a) (told new)
-        (told-is a (counted (stateOf e d (answerMarks a m))) (place-fits e d m out z a refl) (λ p x h. distance-fits e d m out z p x h)) (accepted-is e d m out z a refl) (state-is e d m out z a refl)
+        (told-is a (counted (stateOf e d (answerMarks a m))) (place-fits e d m out z a refl) (λ p x h. distance-fits e d m out z p x h))
+        (accepted-is e d m out z a refl) (state-is e d m out z a refl)
     go (suc k) z = rw (ne-eqb (suc k) 0 (λ q. omega arith)) (adds-none b)
 
-supply-adds : (b : Lists) (p bits : ℕ) (out : List ℕ) → Adds (call b (supplies p bits out) .lists) (held b) (seen (supplies p bits out) (call b (supplies p bits out)))
+supply-adds : (b : Lists) (p bits : ℕ) (out : List ℕ)
+    → Adds (call b (supplies p bits out) .lists) (held b) (seen (supplies p bits out) (call b (supplies p bits out)))
 unfolding call seen supplyAnswer after
 supply-adds b p bits out = go (supplyNumber e d m p x out) refl
   where
@@ -206,15 +211,8 @@ calls-run b (c ∷ cs) =
     )
 
 -- ---- the reported count
-counted-few : (s : State) → counted s ≤ s .size
-unfolding counted
-counted-few s = omega (arith, sum-le 1 (s .size) (λ i. oneOrTwo (s .mark i)) (λ i. few (eqb (s .mark i) 1 || eqb (s .mark i) 2)))
-  where
-    few : (b : Bool) → cond b 1 0 ≤ 1
-    few true = omega arith
-    few false = omega arith
-
-next-counts : (b : Lists) (out : List ℕ) → call b (next out) .number ≡ 0 → reported (next out) (call b (next out)) ≡ notWaiting (held (call b (next out) .lists))
+next-counts : (b : Lists) (out : List ℕ) → call b (next out) .number ≡ 0
+    → reported (next out) (call b (next out)) ≡ notWaiting (held (call b (next out) .lists))
 unfolding call reported nextAnswer
 next-counts b out z =
     rw (after-accepted n m marks z, after-accepted n out (answerBytes a count) z)
@@ -260,7 +258,8 @@ unfolding call reported supplyAnswer
 supply-counts b p bits out z =
     rw (after-accepted n d stored z, after-accepted n m marks z, after-accepted n out (bytesOf 4 count) z)
     (num-bytes count (omega (arith, counted-few t, length-set m p 1, supply-sized e d m p bits out z .most))
-    ∙ counted-is t (subst Clean (sym (supply-state e d m p bits out z)) (unfold then in clean-then s (supply p x) (unfold Accepted in supply-rows e d m p bits out z .1))))
+    ∙ counted-is t (subst Clean (sym (supply-state e d m p bits out z))
+    (unfold then in clean-then s (supply p x) (unfold Accepted in supply-rows e d m p bits out z .1))))
   where
     e : List ℕ
     e = b .estimates

@@ -5,34 +5,31 @@ use mathlib.Core.List.{List, [], _∷_, _++_}
 use Prim.Native.Nat.{ℕ, zero, suc, _+_, _*_, _<_, _≤_}
 use native.Mathlib.Nat.{zero-add}
 use native.Mathlib.Omega.{arith}
-use borrow.Author.Tests.{lt-ltb, le-ltb, ne-eqb, eq-eqb, eqb-true}
+use borrow.Author.Tests.{lt-ltb, le-ltb, eq-eqb}
 use lib.Dec.{T, eqb, ltb}
 use lib.ListN.{length, getD, set, length-set, length-append}
-use lib.Seq.{sets, length-sets}
+use lib.Seq.{sets}
 use lib.Ieee.{Float, nan, inf, fin, isNan, ne, binary32, ofBits, toBits}
 use lib.Ieee.Compare.{differs-from-itself}
-use Rattle.words.specs.Bytes.{bytesOf, f32At, floatBytes}
+use Rattle.words.specs.Bytes.{bytesOf, floatBytes}
 use Rattle.words.specs.Limits.{mostPlaces}
 use Rattle.words.specs.Refusals.{after, badLength}
-use Rattle.words.specs.Sums.{sumTo}
 use Rattle.words.proofs.ByteLaws.{length-bytesOf, length-floatBytes, sets-append, sets-all}
 use Rattle.words.proofs.FloatLaws.{same-no-nan}
-use Rattle.words.proofs.RefusalLaws.{after-accepted, after-refused, sized, unsized, none-bad, no-row, neither}
-use Rattle.words.proofs.SumLaws.{sum-le}
-use Rattle.rerank.specs.Rerank.{State, put, answer, asksFor, missing, badMark, nextRefusal, supplyRefusal, given, supplied, oneOrTwo, counted}
-use Rattle.rerank.specs.Calls.{stateOf, badLists, answerNumber, answerPlace, answerBits, answerMarks, answerBytes, nextNumber, nextAnswer, supplyNumber, supplyAnswer}
+use Rattle.words.proofs.RefusalLaws.{after-refused, sized, unsized, none-bad}
+use Rattle.rerank.specs.Rerank.{State, answer, asksFor, missing, badMark, nextRefusal, supplyRefusal, oneOrTwo, counted}
+use Rattle.rerank.specs.Calls.{stateOf, badLists, answerMarks, answerBytes, nextNumber, nextAnswer, supplyNumber, supplyAnswer}
 use Rattle.rerank.specs.Demand.{notWaiting}
 use Rattle.rerank.specs.Scan.{Accepting, Ruled, ScanTo}
 use Rattle.rerank.specs.declared.Answer.{Answer}
 use Rattle.rerank.specs.declared.Answer.the-variants.{Ask, Give, Done}
 use Rattle.rerank.specs.declared.Scan.{Scan}
 use Rattle.rerank.specs.declared.Ruling.{Ruling}
-use Rattle.rerank.proofs.OrderLaws.{true-of, true-false}
 use Rattle.rerank.proofs.RuleLaws.{Clean, missing-no, badMark-no, next-clean, means, asks-is}
-use Rattle.rerank.proofs.RunLaws.{Giving, giving}
-use Rattle.rerank.proofs.TallyLaws.{sum-put, counted-is}
+use Rattle.rerank.proofs.RunLaws.{giving}
+use Rattle.rerank.proofs.TallyLaws.{sum-put, counted-few, counted-is}
 use Rattle.rerank.proofs.ScanLaws.{sized-of, found-refusal}
-use Rattle.rerank.proofs.StateLaws.{state-given, state-marked}
+use Rattle.rerank.proofs.StateLaws.{state-marked}
 
 -- ---- the lengths, as the code tests them
 module _ (e d m : List ℕ) where
@@ -66,7 +63,9 @@ pub four-stores : (out o1 o2 o3 o4 : List ℕ) (number place : ℕ) (distance : 
     → o2 ≡ sets o1 4 (bytesOf 4 place) → o3 ≡ sets o2 8 (floatBytes distance) → o4 ≡ sets o3 12 (bytesOf 4 count)
     → o4 ≡ bytesOf 4 number ++ bytesOf 4 place ++ floatBytes distance ++ bytesOf 4 count
 four-stores out o1 o2 o3 o4 number place distance count h p q r s =
-    rw (s, r, q, p) (ap (λ (l : List ℕ). sets (sets l 8 c) 12 d) (step a b 4 la) ∙ ap (λ (l : List ℕ). sets l 12 d) (step (a ++ b) c 8 lb) ∙ step (a ++ b ++ c) d 12 lc
+    rw (s, r, q, p) (ap (λ (l : List ℕ). sets (sets l 8 c) 12 d) (step a b 4 la)
+    ∙ ap (λ (l : List ℕ). sets l 12 d) (step (a ++ b) c 8 lb)
+    ∙ step (a ++ b ++ c) d 12 lc
     ∙ sets-all out (a ++ b ++ c ++ d) (omega (arith, length-append (a ++ b ++ c) d, length-bytesOf 4 count, lc)))
   where
     a : List ℕ
@@ -164,16 +163,8 @@ module _ (e d m : List ℕ) (r : Ruling) (k : Ruled e d m r) (z : r .refused ≡
     supply-count d' = omega (arith, count-marked d' p 0 1 asked-inside (means (stateOf e d m) clean (Ask p) now-asked .least .marked))
 
     pub count-room : badLists e d m ≡ false → r .count + 1 ≤ mostPlaces
-    unfolding counted
     count-room h =
-        omega (arith, supply-count d, sized-of e d m h .most, length-set m p 1, sum-le 1 (length (set m p 1)) (λ i. oneOrTwo (getD (set m p 1) i 0)) (λ i. few (getD (set m p 1) i 0)))
-      where
-        few : (x : ℕ) → oneOrTwo x ≤ 1
-        few x = go (eqb x 1 || eqb x 2)
-          where
-            go : (b : Bool) → cond b 1 0 ≤ 1
-            go true = omega arith
-            go false = omega arith
+        omega (arith, supply-count d, sized-of e d m h .most, length-set m p 1, counted-few (stateOf e d (set m p 1)))
 
 -- ---- next, a law a return
 module _ (e d m out : List ℕ) (b : Bool) (h : b ≡ badLists e d m) where
@@ -194,7 +185,8 @@ module _ (e d m out : List ℕ) (b : Bool) (h : b ≡ badLists e d m) where
     unfolding nextAnswer
     next-refused z =
         let a = answer (stateOf e d m) in
-        rw (number-is, after-refused (r .refused) m (answerMarks a m) z, after-refused (r .refused) out (answerBytes a (counted (stateOf e d (answerMarks a m)))) z)
+        let new = answerBytes a (counted (stateOf e d (answerMarks a m))) in
+        rw (number-is, after-refused (r .refused) m (answerMarks a m) z, after-refused (r .refused) out new z)
 
     pub next-accepted : (m' out' : List ℕ) → r .refused ≡ 0 → m' ≡ answerMarks (r .answer) m → out' ≡ answerBytes (r .answer) (r .count)
         → (0, m', out') ≡ nextAnswer e d m out
@@ -253,7 +245,8 @@ module _ (e d m out : List ℕ) (p : ℕ) (x : Float) (b : Bool) (h : b ≡ badL
     unfolding supplyAnswer
     refuses n q z =
         let d' = sets d (4 * p) (floatBytes x) in
-        rw (supply-is ∙ sym q, after-refused n d d' z, after-refused n m (set m p 1) z, after-refused n out (bytesOf 4 (counted (stateOf e d' (set m p 1)))) z)
+        let new = bytesOf 4 (counted (stateOf e d' (set m p 1))) in
+        rw (supply-is ∙ sym q, after-refused n d d' z, after-refused n m (set m p 1) z, after-refused n out new z)
 
     pub supply-nan : ne x x ≡ true → (4, d, m, out) ≡ supplyAnswer e d m p x out
     supply-nan n = refuses 4 (unfold supplyRefusal in rw (nan-yes x n, or-true (missing (stateOf e d m)))) (λ z. omega arith)

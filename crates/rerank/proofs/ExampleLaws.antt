@@ -1,7 +1,7 @@
 -- Document 01's two example runs, by computation. Assumes nothing.
 use mathlib.Core.Path.{refl}
 use lib.Ieee.{ofBits, lt, isNan}
-use Rattle.rerank.specs.Rerank.{put, better, least, choose, answer, missingAt, missing, badMark, asksFor, nextRefusal, supplyRefusal, Accepted, then, Run, drive}
+use Rattle.rerank.specs.Rerank.{put, answer, nextRefusal, supplyRefusal, Accepted, then, Run, drive}
 use Rattle.rerank.specs.Examples.{Examples}
 
 pub examples : Examples

@@ -3,14 +3,13 @@ use mathlib.Core.Path.{_≡_, refl, sym, ap, subst, _∙_}
 use mathlib.Core.Logic.{_⊎_, inl, inr}
 use mathlib.Core.Bool.{Bool, true, false, not, cond}
 use Prim.Native.Nat.{ℕ, zero, suc, _+_, _-_, _*_, _/_, _%_, _^_, _<_, _≤_}
-use native.Mathlib.Nat.{mul-le-mul-left, mul-le-mul-right, mul-pos, mul-assoc, mul-comm, mul-right-comm, mul-one, le-of-mul-le-mul-right, two-pow-succ}
+use native.Mathlib.Nat.{mul-le-mul-left, mul-le-mul-right, mul-pos, mul-assoc, mul-comm, mul-right-comm, le-of-mul-le-mul-right, two-pow-succ}
 use native.Mathlib.Decide.{decLt, ℕ-discrete}
 use native.Mathlib.Omega.{arith}
-use borrow.Author.Tests.{ltb-true, ltb-false, lt-ltb, le-ltb, le-leb, lt-leb, eqb-true, eqb-false, eq-eqb, ne-eqb}
-use lib.Dec.{T, ltb, leb, eqb}
+use borrow.Author.Tests.{ltb-true, ltb-false, lt-ltb, le-ltb, le-leb, lt-leb, eqb-true, eqb-false}
+use lib.Dec.{ltb, leb, eqb}
 use lib.Pow.{pow-pos, pow-mono}
-use lib.IntN.{ℤ, pos, negsuc}
-use lib.Ieee.{Float, nan, inf, fin, up, down, below, lt, isNan, nanBits, odd, ofFields, ofBits, binary32}
+use lib.Ieee.{Float, nan, inf, fin, up, down, below, lt, nanBits, odd, ofFields, ofBits, binary32}
 use lib.Ieee.Bits.{nanBits-above}
 use lib.Ieee.Exact.{HasValue, odd-sign}
 use lib.Ieee.Fits.{down-pos}
@@ -52,7 +51,8 @@ lt-values (fin u m e) (inf w) s t A B c pc h k = absurd k
 lt-values (fin u m e) (fin w n d) s t A B c pc h k =
     rw (h .0, k .0) (below-values s t (m * up e * down d) (n * up d * down e) A B c (down e * down d) pc (mul-pos (down-pos e) (down-pos d))
     (mul-right-comm (m * up e) (down d) c ∙ ap (λ (z : ℕ). z * down d) (h .1) ∙ mul-assoc A (down e) (down d))
-    (mul-right-comm (n * up d) (down e) c ∙ ap (λ (z : ℕ). z * down e) (k .1) ∙ mul-assoc B (down d) (down e) ∙ ap (λ (z : ℕ). B * z) (mul-comm (down d) (down e))))
+    (mul-right-comm (n * up d) (down e) c ∙ ap (λ (z : ℕ). z * down e) (k .1) ∙ mul-assoc B (down d) (down e)
+    ∙ ap (λ (z : ℕ). B * z) (mul-comm (down d) (down e))))
 
 -- ---- the value of a magnitude's bits, in units of the least subnormal: field x, digits t
 value : ℕ → ℕ → ℕ
@@ -138,7 +138,8 @@ zero-magnitude = refl
 
 sum-magnitude : (a b : ℕ) → ltb 0 (magnitude a + magnitude b) ≡ ltb 0 (a + b)
 sum-magnitude a b =
-    sym (ltb-same 0 (a + b) 0 (magnitude a + magnitude b) (λ h. elim (decLt 0 a) [ yes l ↦ omega (arith, magnitude-less 0 a l) | no g ↦ omega (arith, magnitude-less 0 b (omega arith)) ])
+    sym (ltb-same 0 (a + b) 0 (magnitude a + magnitude b)
+    (λ h. elim (decLt 0 a) [ yes l ↦ omega (arith, magnitude-less 0 a l) | no g ↦ omega (arith, magnitude-less 0 b (omega arith)) ])
     (λ h. let p : a ≡ 0 = omega arith in let q : b ≡ 0 = omega arith in omega (arith, ap magnitude p, ap magnitude q, zero-magnitude)))
 
 below-same : (s t : Bool) (a b : ℕ) → below s (magnitude a) t (magnitude b) ≡ below s a t b
@@ -207,7 +208,8 @@ key-signed u = elim (decLt u 0x8000_0000) [
 -- the order of two floats that are no NaN is that of their keys
 pub key-less : (u v : ℕ) → nanBits binary32 u ≡ false → nanBits binary32 v ≡ false → lt (ofBits binary32 u) (ofBits binary32 v) ≡ ltb (keyOf u) (keyOf v)
 key-less u v n m =
-    pattern-less (ofBits binary32 u) (ofBits binary32 v) (leb 0x8000_0000 u) (leb 0x8000_0000 v) (u % 0x8000_0000) (v % 0x8000_0000) (pattern u n) (pattern v m)
+    pattern-less (ofBits binary32 u) (ofBits binary32 v) (leb 0x8000_0000 u) (leb 0x8000_0000 v) (u % 0x8000_0000) (v % 0x8000_0000)
+    (pattern u n) (pattern v m)
     ∙ signed-less (leb 0x8000_0000 u) (leb 0x8000_0000 v) (u % 0x8000_0000) (v % 0x8000_0000) (omega arith) (omega arith)
     ∙ rw (key-signed u, key-signed v)
 

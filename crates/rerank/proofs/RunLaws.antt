@@ -7,7 +7,7 @@ use Prim.Native.Nat.{ℕ, _<_, _≤_}
 use native.Mathlib.Decide.{ℕ-discrete}
 use native.Mathlib.Omega.{arith}
 use lib.Ieee.{Float, lt}
-use Rattle.rerank.specs.Rerank.{State, put, answer, nextRefusal, supplyRefusal, given, supplied, Event, asked, supply, gave, done, Accepted, then, ran, Run}
+use Rattle.rerank.specs.Rerank.{State, answer, nextRefusal, supplyRefusal, given, supplied, Event, asked, supply, gave, done, Accepted, then, ran, Run}
 use Rattle.rerank.specs.Demand.{Fresh, Lower, Supplied}
 use Rattle.rerank.specs.declared.Answer.the-variants.{Ask, Give}
 use Rattle.rerank.proofs.OrderLaws.{Num, Less, NotLess, false-of, true-false, less-asym, notLess-trans}
@@ -109,10 +109,14 @@ unfolding Run ran
 clean-run s [] r c = c
 clean-run s (e ∷ es) r c = clean-run (then s e) es (r .1) (clean-then s e (r .0))
 
--- ---- order without the premise. `Past d s`: nothing that is still to come may fall below d, but for a candidate whose own estimate was above its distance
+-- ---- order without the premise. `Past d s`: nothing that is still to come may fall below d, but for a candidate whose own estimate was
+-- above its distance
+abbrev Blamed : Float → State → ℕ → Type 0
+Blamed d s q = Less (s .distance q) (s .estimate q) ⊎ NotLess (s .distance q) d
+
 pub record Past (d : Float) (s : State) : Type 0 where
   pub waiting : (q : ℕ) → q < s .size → s .mark q ≡ 0 → NotLess (s .estimate q) d
-  pub held : (q : ℕ) → q < s .size → s .mark q ≡ 1 → Less (s .distance q) (s .estimate q) ⊎ NotLess (s .distance q) d
+  pub held : (q : ℕ) → q < s .size → s .mark q ≡ 1 → Blamed d s q
 
 past-given : (s : State) (p : ℕ) (d : Float) → Giving s p d → Past d (given s p)
 past-given s p d g =
@@ -125,7 +129,7 @@ past-supply : (x : Float) (s : State) (p : ℕ) (d : Float) → Supplying s p d 
 past-supply x s p d g k =
     record {
       waiting = λ q h e. k .waiting q h (supplied-waits s p d q e);
-      held = λ q. at-or-else (λ r. r < s .size → supplied s p d .mark r ≡ 1 → Less (supplied s p d .distance r) (s .estimate r) ⊎ NotLess (supplied s p d .distance r) x) p q
+      held = λ q. at-or-else (λ r. r < s .size → supplied s p d .mark r ≡ 1 → Blamed x (supplied s p d) r) p q
           (λ h e. rw (put-here (s .distance) p d) (here (lt d (s .estimate p)) refl))
           (λ o h e. rw (put-else (s .distance) p d q o) (k .held q h (sym (put-else (s .mark) p 1 q o) ∙ e)));
     }
@@ -186,7 +190,8 @@ sourced-then s es (supply p d) a k =
     record {
       source = λ q. at-or-else (λ x. x < s .size → supplied s p d .mark x ≡ 1 → Supplied x (supplied s p d .distance x) (es ++ (supply p d ∷ []))) p q
           (λ h m. rw (put-here (s .distance) p d) record { earlier = es; later = []; here = refl })
-          (λ o h m. rw (put-else (s .distance) p d q o) (supplied-later q (s .distance q) es (supply p d ∷ []) (k .source q h (sym (put-else (s .mark) p 1 q o) ∙ m))));
+          (λ o h m. rw (put-else (s .distance) p d q o) (supplied-later q (s .distance q) es (supply p d ∷ [])
+          (k .source q h (sym (put-else (s .mark) p 1 q o) ∙ m))));
     }
 sourced-then s es (gave p d) a k =
     record { source = λ q h m. supplied-later q (s .distance q) es (gave p d ∷ []) (k .source q h (given-asked s p q m)) }
@@ -238,7 +243,8 @@ kept-supply s p d g low k = record { ordered = ord; reached = rea }
         at-or-else (λ x. NotLess (s .distance r) (s .estimate x)) p q (less-asym (s .estimate p) (s .distance r) (g .2 .ahead r v n))
         (λ o. k .reached q r h v (was q o m) n)
 
-    rea : (q r : ℕ) → q < s .size → r < s .size → (supplied s p d .mark q ≡ 0 → ⊥) → supplied s p d .mark r ≡ 1 → NotLess (supplied s p d .distance r) (s .estimate q)
+    rea : (q r : ℕ) → q < s .size → r < s .size → (supplied s p d .mark q ≡ 0 → ⊥) → supplied s p d .mark r ≡ 1
+        → NotLess (supplied s p d .distance r) (s .estimate q)
     rea q r h v m =
         at-or-else (λ x. supplied s p d .mark x ≡ 1 → NotLess (supplied s p d .distance x) (s .estimate q)) p r
         (λ n. rw (put-here (s .distance) p d) (here q h m))
@@ -300,7 +306,8 @@ reached-all s fs gs p q d r f l h n =
     (subst (λ (z : Float). NotLess z (t .estimate q)) (sym (g .1 .value)) (k .reached q p v (g .1 .least .inside) n (g .1 .least .marked)))
 
 -- so none with an estimate above d has been asked for
-pub none-above : (s : State) (fs gs : List Event) (p q : ℕ) (d : Float) → Run s (fs ++ (gave p d ∷ gs)) → Fresh s → Lower (s .estimate) (fs ++ (gave p d ∷ gs))
+pub none-above : (s : State) (fs gs : List Event) (p q : ℕ) (d : Float) → Run s (fs ++ (gave p d ∷ gs)) → Fresh s
+    → Lower (s .estimate) (fs ++ (gave p d ∷ gs))
     → q < s .size → Less d (s .estimate q) → ran s fs .mark q ≡ 0
 none-above s fs gs p q d r f l h above =
     elim (ℕ-discrete (ran s fs .mark q) 0) [
@@ -313,7 +320,10 @@ pub never-falls : (s : State) (fs gs hs : List Event) (x y : ℕ) (dx dy : Float
     → Lower (s .estimate) (fs ++ (gave x dx ∷ (gs ++ (gave y dy ∷ hs)))) → NotLess dy dx
 unfolding Run Accepted
 never-falls s fs gs hs x y dx dy r f l =
-    false-of (lt dy dx) (λ b. true-false (lt dy (s .estimate y)) (blame s fs gs hs x y dx dy r b) (reached-all s (fs ++ (gave x dx ∷ gs)) hs y y dy r' f (subst (Lower (s .estimate)) (sym e) l) (rw (← ran-estimate s (fs ++ (gave x dx ∷ gs)) .1) (g .1 .least .inside)) (λ m. let z : _≡_ {A = ℕ} 1 0 = sym (g .1 .least .marked) ∙ m in omega arith)))
+    let l' = subst (Lower (s .estimate)) (sym e) l in
+    let h : y < s .size = rw (← ran-estimate s (fs ++ (gave x dx ∷ gs)) .1) (g .1 .least .inside) in
+    let low = reached-all s (fs ++ (gave x dx ∷ gs)) hs y y dy r' f l' h (λ m. let z : _≡_ {A = ℕ} 1 0 = sym (g .1 .least .marked) ∙ m in omega arith) in
+    false-of (lt dy dx) (λ b. true-false (lt dy (s .estimate y)) (blame s fs gs hs x y dx dy r b) low)
   where
     e : (fs ++ (gave x dx ∷ gs)) ++ (gave y dy ∷ hs) ≡ fs ++ (gave x dx ∷ (gs ++ (gave y dy ∷ hs)))
     e = append-assoc fs (gave x dx ∷ gs) (gave y dy ∷ hs)

@@ -1,28 +1,29 @@
 -- What the turns and the ends of the scan's loops say. Assumes nothing.
-use mathlib.Core.Path.{_≡_, refl, sym, subst, ap, _∙_}
+use mathlib.Core.Path.{_≡_, refl, sym, subst, ap, ap₂, _∙_}
 use mathlib.Core.Logic.{_⊎_, inl, inr}
 use mathlib.Core.Bool.{Bool, true, false, not, _&&_, _||_, cond}
 use mathlib.Core.List.{List}
 use Prim.Native.Nat.{ℕ, zero, suc, _+_, _-_, _*_, _/_, _%_, _<_, _≤_}
 use native.Mathlib.Decide.{decLt, ℕ-discrete}
+use native.Mathlib.Nat.{zero-add}
 use native.Mathlib.Numerals.{add-one}
 use native.Mathlib.Omega.{arith}
-use borrow.Author.Tests.{ltb-true, ltb-false, lt-ltb, le-ltb, eqb-true, eqb-false, eq-eqb, ne-eqb, not-false}
+use borrow.Author.Tests.{ltb-true, ltb-false, lt-ltb, le-ltb, eqb-true, ne-eqb, not-false}
 use lib.Dec.{eqb, leb, ltb}
 use lib.ListN.{length, getD}
-use lib.Ieee.{binary32, nanBits, isNan, ofBits}
+use lib.Ieee.{binary32, nanBits}
 use lib.Ieee.Bits.{nanBits-above, nanBits-is}
 use Rattle.words.specs.Bytes.{numAt, f32At}
 use Rattle.words.specs.Limits.{mostPlaces}
 use Rattle.words.specs.Lists.{anyBelow}
 use Rattle.words.specs.Refusals.{badLength}
 use Rattle.words.specs.Sums.{sumTo}
-use Rattle.words.proofs.ListLaws.{any-none, any-more}
 use Rattle.words.proofs.RefusalLaws.{neither}
-use Rattle.words.proofs.SumLaws.{sum-more, sum-ext, sum-le}
-use Rattle.rerank.specs.Rerank.{State, missingAt, missing, badMark, nextRefusal}
+use Rattle.words.proofs.SumLaws.{sum-more, sum-le}
+use Rattle.rerank.specs.Rerank.{missingAt, missing, badMark, nextRefusal}
 use Rattle.rerank.specs.Calls.{stateOf, badLists}
-use Rattle.rerank.specs.Scan.{keyOf, noKey, keyIf, lesser, keyAt, leastKey, lacks, lackAt, aboveTwo, notZero, KeysTo, CountsOf, WithBlock, ScanTo, FirstAt}
+use Rattle.rerank.specs.Scan.{keyOf, noKey, keyIf, lesser, keyAt, leastKey, lacks, lackAt, nanOne, aboveTwo, notZero, KeysTo, CountsOf, WithBlock, ScanTo}
+use Rattle.rerank.specs.Scan.{FirstAt}
 use Rattle.rerank.specs.declared.Keys.{Keys}
 use Rattle.rerank.specs.declared.Counts.{Counts}
 use Rattle.rerank.specs.declared.Scan.{Scan}
@@ -45,10 +46,15 @@ sized-of e d m h =
     record { most = ltb-false mostPlaces (length m) (b .0); estimates = length-of e (4 * length m) (b .1); distances = length-of d (4 * length m) (a .1) }
 
 -- ---- one place
-pub nan-test : (u : ℕ) → ltb 0x7F80_0000 (u - u / 0x8000_0000 * 0x8000_0000) ≡ nanBits binary32 u
-nan-test u =
-    let e : u - u / 0x8000_0000 * 0x8000_0000 ≡ u % 0x8000_0000 = omega arith in
-    rw e (sym (nanBits-above binary32 u))
+module _ (u v : ℕ) (e : v ≡ u - u / 0x8000_0000 * 0x8000_0000) where
+  same-part : v ≡ u % 0x8000_0000
+  same-part = omega arith
+
+  pub nan-yes : 0x7F80_0000 < v → 1 ≡ nanOne u
+  nan-yes h = rw (nanBits-above binary32 u, ← same-part, lt-ltb 0x7F80_0000 v h)
+
+  pub nan-no : v ≤ 0x7F80_0000 → 0 ≡ nanOne u
+  nan-no h = rw (nanBits-above binary32 u, ← same-part, le-ltb 0x7F80_0000 v h)
 
 pub key-up : (u : ℕ) → u < 0x8000_0000 → u + 0x8000_0000 ≡ keyOf u
 unfolding keyOf
@@ -57,23 +63,6 @@ key-up u h = rw (lt-ltb u 0x8000_0000 h) (omega arith)
 pub key-down : (u : ℕ) → 0x8000_0000 ≤ u → u < 0x1_0000_0000 → 0x8000_0000 - (u - 0x8000_0000) ≡ keyOf u
 unfolding keyOf
 key-down u h l = rw (le-ltb u 0x8000_0000 h) (omega arith)
-
-module _ (m e d : ℕ) (b : Bool) (h : b ≡ nanBits binary32 e) where
-  pub lacks-estimate : b ≡ true → 1 ≡ lacks m e d
-  unfolding lacks
-  lacks-estimate t = rw (← h, t)
-
-  pub lacks-nothing : b ≡ false → (m ≡ 1 → ⊥) → 0 ≡ lacks m e d
-  unfolding lacks
-  lacks-nothing t g = rw (← h, t, ne-eqb m 1 g)
-
-  pub lacks-distance : (c : Bool) → b ≡ false → m ≡ 1 → c ≡ nanBits binary32 d → c ≡ true → 1 ≡ lacks m e d
-  unfolding lacks
-  lacks-distance c t g k u = rw (← h, t, g, ← k, u)
-
-  pub lacks-neither : (c : Bool) → b ≡ false → m ≡ 1 → c ≡ nanBits binary32 d → c ≡ false → 0 ≡ lacks m e d
-  unfolding lacks
-  lacks-neither c t g k u = rw (← h, t, g, ← k, u)
 
 pub key-at : (k : ℕ) (s m : List ℕ) (i u v : ℕ) → u ≡ numAt 4 s (4 * i) → v ≡ keyIf (eqb (getD m i 0) k) u → v ≡ keyAt k s m i
 unfolding keyAt
@@ -151,16 +140,20 @@ module _ (g : ℕ → ℕ) where
       old e (inr x) = inr (x .0, omega (arith, x .1), x .2 ∙ sym e)
 
 -- ---- one place more
-lack-le : (e d m : List ℕ) (i : ℕ) → lackAt e d m i ≤ 1
+lack-le : (e d m : List ℕ) (i : ℕ) → lackAt e d m i ≤ 2
 unfolding lackAt lacks
-lack-le e d m i = go (nanBits binary32 (numAt 4 e (4 * i)) || (eqb (getD m i 0) 1 && nanBits binary32 (numAt 4 d (4 * i))))
+lack-le e d m i = go (nanBits binary32 (numAt 4 e (4 * i))) (eqb (getD m i 0) 1) (nanBits binary32 (numAt 4 d (4 * i)))
   where
-    go : (b : Bool) → cond b 1 0 ≤ 1
-    go true = omega arith
-    go false = omega arith
+    one : (b : Bool) → cond b 1 0 ≤ 1
+    one true = omega arith
+    one false = omega arith
 
-pub keys-few : (e d m : List ℕ) (i : ℕ) (s : Keys) → KeysTo e d m i s → s .missing ≤ i
-keys-few e d m i s k = omega (arith, k .missing, sum-le 1 i (lackAt e d m) (lack-le e d m))
+    go : (a b c : Bool) → cond a 1 0 + cond b (cond c 1 0) 0 ≤ 2
+    go a true c = omega (arith, one a, one c)
+    go a false c = omega (arith, one a)
+
+pub keys-few : (e d m : List ℕ) (i : ℕ) (s : Keys) → KeysTo e d m i s → s .missing ≤ 2 * i
+keys-few e d m i s k = omega (arith, k .missing, sum-le 2 i (lackAt e d m) (lack-le e d m))
 
 pub keys-more : (e d m : List ℕ) (i x u v : ℕ) (s r : Keys) → KeysTo e d m i s → x ≡ getD m i 0 → u ≡ numAt 4 e (4 * i) → v ≡ numAt 4 d (4 * i)
     → (r .missing ≡ s .missing + lacks x u v) × ((r .waiting ≡ lesser (s .waiting) (keyIf (eqb x 0) u)) × (r .asked ≡ lesser (s .asked) (keyIf (eqb x 1) v)))
@@ -203,16 +196,16 @@ scan-few e d m i s k = (
 )
 
 -- no place before the block of the least key has it
-from-more : (g : ℕ → ℕ) (i to from : ℕ) → i ≤ to → ((q : ℕ) → q < from → leastKey i g < g q) → (q : ℕ)
-    → q < cond (ltb (leastKey to g) (leastKey i g)) i from → leastKey to g < g q
-from-more g i to from h f q = go (ltb (leastKey to g) (leastKey i g)) refl
+from-more : (g : ℕ → ℕ) (i to from old new : ℕ) → i ≤ to → old ≡ leastKey i g → new ≡ leastKey to g → ((q : ℕ) → q < from → old < g q)
+    → (q : ℕ) → q < cond (ltb new old) i from → new < g q
+from-more g i to from old new h p r f q = go (ltb new old) refl
   where
-    go : (b : Bool) → ltb (leastKey to g) (leastKey i g) ≡ b → q < cond b i from → leastKey to g < g q
-    go true e l = omega (arith, ltb-true (leastKey to g) (leastKey i g) e, key-low g i q l)
+    go : (b : Bool) → ltb new old ≡ b → q < cond b i from → new < g q
+    go true e l = omega (arith, ltb-true new old e, key-low g i q l)
     go false e l = omega (arith, f q l, key-falls g i to h)
 
-pub scan-more : (e d m : List ℕ) (i to : ℕ) (s r : Scan) (c : Counts) (keys : Keys) → i ≤ to → ScanTo e d m i s → CountsOf m i to (c .bad) (c .count) → KeysTo e d m to keys
-    → WithBlock s c keys i r → ScanTo e d m to r
+pub scan-more : (e d m : List ℕ) (i to : ℕ) (s r : Scan) (c : Counts) (keys : Keys) → i ≤ to → ScanTo e d m i s
+    → CountsOf m i to (c .bad) (c .count) → KeysTo e d m to keys → WithBlock s c keys i r → ScanTo e d m to r
 scan-more e d m i to s r c keys h a b k w =
     record {
       keys = rw (w .same-keys) k;
@@ -223,35 +216,44 @@ scan-more e d m i to s r c keys h a b k w =
     }
   where
     waits : (q : ℕ) → q < cond (ltb (keys .waiting) (s .keys .waiting)) i (s .«waits_from») → keys .waiting < keyAt 0 e m q
-    waits q l =
-        rw (k .waiting) (from-more (keyAt 0 e m) i to (s .«waits_from») h (λ q l. rw (← a .keys .waiting) (a .waits-from q l)) q
-        (subst (λ (z : ℕ). q < cond (ltb z (leastKey i (keyAt 0 e m))) i (s .«waits_from»)) (k .waiting) (subst (λ (z : ℕ). q < cond (ltb (keys .waiting) z) i (s .«waits_from»)) (a .keys .waiting) l)))
+    waits = from-more (keyAt 0 e m) i to (s .«waits_from») (s .keys .waiting) (keys .waiting) h (a .keys .waiting) (k .waiting) (a .waits-from)
 
     asks : (q : ℕ) → q < cond (ltb (keys .asked) (s .keys .asked)) i (s .«asked_from») → keys .asked < keyAt 1 d m q
-    asks q l =
-        rw (k .asked) (from-more (keyAt 1 d m) i to (s .«asked_from») h (λ q l. rw (← a .keys .asked) (a .asked-from q l)) q
-        (subst (λ (z : ℕ). q < cond (ltb z (leastKey i (keyAt 1 d m))) i (s .«asked_from»)) (k .asked) (subst (λ (z : ℕ). q < cond (ltb (keys .asked) z) i (s .«asked_from»)) (a .keys .asked) l)))
+    asks = from-more (keyAt 1 d m) i to (s .«asked_from») (s .keys .asked) (keys .asked) h (a .keys .asked) (k .asked) (a .asked-from)
 
 -- ---- the refusal that the scan finds
-any-sum : (p : ℕ → Bool) (f : ℕ → ℕ) (n : ℕ) → ((i : ℕ) → f i ≡ cond (p i) 1 0) → ltb 0 (sumTo n f) ≡ anyBelow n p
-unfolding sumTo
-any-sum p f zero h = sym (any-none p)
-any-sum p f (suc n) h = any-more p n (sumTo n f) (f n) (any-sum p f n h) (h n) ∙ ap (λ (k : ℕ). anyBelow k p) (add-one n)
+any-sum : (p : ℕ → Bool) (f : ℕ → ℕ) (n : ℕ) → ((i : ℕ) → ltb 0 (f i) ≡ p i) → ltb 0 (sumTo n f) ≡ anyBelow n p
+unfolding sumTo anyBelow
+any-sum p f zero h = refl
+any-sum p f (suc n) h = either (sumTo n f) (f n) ∙ ap₂ (λ (a b : Bool). a || b) (any-sum p f n h) (h n)
+  where
+    either : (a b : ℕ) → ltb 0 (a + b) ≡ (ltb 0 a || ltb 0 b)
+    either zero b = ap (ltb 0) (zero-add b)
+    either (suc a) b = lt-ltb 0 (suc a + b) (omega arith) ∙ sym (ap (λ (t : Bool). t || ltb 0 b) (lt-ltb 0 (suc a) (omega arith)))
 
 module _ (e d m : List ℕ) (s : Scan) (k : ScanTo e d m (length m) s) where
   found-missing : ltb 0 (s .keys .missing) ≡ missing (stateOf e d m)
   unfolding missing
   found-missing = rw (k .keys .missing) (any-sum (missingAt (stateOf e d m)) (lackAt e d m) (length m) here)
     where
-      here : (i : ℕ) → lackAt e d m i ≡ cond (missingAt (stateOf e d m) i) 1 0
+      go : (a b c : Bool) → ltb 0 (cond a 1 0 + cond b (cond c 1 0) 0) ≡ (a || (b && c))
+      go true true true = refl
+      go true true false = refl
+      go true false c = refl
+      go false true true = refl
+      go false true false = refl
+      go false false c = refl
+
+      here : (i : ℕ) → ltb 0 (lackAt e d m i) ≡ missingAt (stateOf e d m) i
       here i = unfold lackAt in unfold lacks in unfold missingAt in unfold f32At in
-          rw (nanBits-is binary32 (numAt 4 e (4 * i)), nanBits-is binary32 (numAt 4 d (4 * i)))
+          rw (← nanBits-is binary32 (numAt 4 e (4 * i)), ← nanBits-is binary32 (numAt 4 d (4 * i)))
+          (go (nanBits binary32 (numAt 4 e (4 * i))) (eqb (getD m i 0) 1) (nanBits binary32 (numAt 4 d (4 * i))))
 
   found-bad : ltb 0 (s .bad) ≡ badMark (stateOf e d m)
   unfolding badMark
   found-bad = rw (k .bad) (any-sum (λ i. not (leb (getD m i 0) 2)) (λ i. aboveTwo (getD m i 0)) (length m) (λ i. go (leb (getD m i 0) 2)))
     where
-      go : (b : Bool) → _≡_ {A = ℕ} (cond b 0 1) (cond (not b) 1 0)
+      go : (b : Bool) → ltb 0 (cond b 0 1) ≡ not b
       go true = refl
       go false = refl
 

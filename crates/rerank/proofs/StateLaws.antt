@@ -3,7 +3,7 @@ use mathlib.Core.Path.{_≡_, refl, sym, ap, ap₂, fun-ext, _∙_}
 use mathlib.Core.Logic.{_⊎_, inl, inr}
 use mathlib.Core.List.{List, [], _∷_, _++_, append-assoc}
 use Prim.Native.Nat.{ℕ, zero, suc, _+_, _*_, _^_, _<_, _≤_}
-use native.Mathlib.Decide.{decLt, ℕ-discrete}
+use native.Mathlib.Decide.{decLt}
 use native.Mathlib.Omega.{arith}
 use lib.Dec.{T}
 use lib.ListN.{length, getD, take, drop, set, length-set}
@@ -12,7 +12,7 @@ use lib.Ieee.{Float, binary32, ofBits, toBits, fits}
 use lib.Ieee.Bits.{ofBits-toBits, toBits-lt}
 use Rattle.words.specs.Bytes.{numAt, bytesOf, f32At, floatBytes}
 use Rattle.words.proofs.ByteLaws.{num-part, num-bytes, length-bytesOf}
-use Rattle.rerank.specs.Rerank.{State, put, given, supplied}
+use Rattle.rerank.specs.Rerank.{put, given, supplied}
 use Rattle.rerank.specs.Calls.{stateOf}
 use Rattle.rerank.proofs.LeastLaws.{put-here, put-else, at-or-else}
 
@@ -34,7 +34,8 @@ num-stored s at u h l =
     let e : sets s at (bytesOf 4 u) ≡ take at s ++ (bytesOf 4 u ++ drop (at + length (bytesOf 4 u)) s) =
     sets-eq (bytesOf 4 u) s at (omega arith) ∙ append-assoc (take at s) (bytesOf 4 u) (drop (at + length (bytesOf 4 u)) s) in
     sym (num-part 4 4 at (sets s at (bytesOf 4 u)) (omega arith))
-    ∙ ap (λ (x : List ℕ). numAt 4 (take 4 x) 0) (ap (drop at) e ∙ drop-at (take at s) (bytesOf 4 u ++ drop (at + length (bytesOf 4 u)) s) at (length-take-le at s (omega arith)))
+    ∙ ap (λ (x : List ℕ). numAt 4 (take 4 x) 0) (ap (drop at) e ∙ drop-at (take at s) (bytesOf 4 u ++ drop (at + length (bytesOf 4 u)) s) at
+    (length-take-le at s (omega arith)))
     ∙ ap (λ (x : List ℕ). numAt 4 x 0) (take-at (bytesOf 4 u) (drop (at + length (bytesOf 4 u)) s) 4 n)
     ∙ num-bytes u l
 

@@ -11,8 +11,9 @@ use borrow.Author.Tests.{eq-eqb, ne-eqb}
 use lib.Dec.{eqb}
 use lib.Ieee.{Float}
 use Rattle.words.specs.Sums.{sumTo}
-use Rattle.words.proofs.SumLaws.{sum-ext, sum-const}
-use Rattle.rerank.specs.Rerank.{State, put, answer, nextRefusal, supplyRefusal, given, supplied, oneOrTwo, counted, Event, asked, supply, gave, done, Accepted, then, ran, Run, tally, aSupply, aGive, supplyOf, giveOf, drive}
+use Rattle.words.proofs.SumLaws.{sum-ext, sum-const, sum-le}
+use Rattle.rerank.specs.Rerank.{State, put, answer, nextRefusal, supplyRefusal, given, supplied, oneOrTwo, counted, Event, asked, supply, gave, done}
+use Rattle.rerank.specs.Rerank.{Accepted, then, ran, Run, tally, aSupply, aGive, supplyOf, giveOf, drive}
 use Rattle.rerank.specs.Demand.{Fresh, notWaiting, Ends}
 use Rattle.rerank.specs.declared.Answer.{Answer}
 use Rattle.rerank.specs.declared.Answer.the-variants.{Ask, Give, Done}
@@ -43,7 +44,8 @@ sum-put g m p v (suc n) h =
   where
     last : n ≡ p → sumTo n (λ i. g (put m p v i)) + g (put m p v n) + g (m p) ≡ sumTo n (λ i. g (m i)) + g (m n) + g v
     last e =
-        omega (arith, sum-ext n (λ i. g (put m p v i)) (λ i. g (m i)) (λ i l. ap g (put-else m p v i (λ q. omega arith))), ap (λ (k : ℕ). g (m k)) e, ap (λ (k : ℕ). g (put m p v k)) e, ap g (put-here m p v))
+        let same = sum-ext n (λ i. g (put m p v i)) (λ i. g (m i)) (λ i l. ap g (put-else m p v i (λ q. omega arith))) in
+        omega (arith, ap (λ (k : ℕ). g (m k)) e, ap (λ (k : ℕ). g (put m p v k)) e, ap g (put-here m p v))
 
 -- ---- what each call does to the sum
 module _ (g : ℕ → ℕ) (s : State) (p : ℕ) (d : Float) where
@@ -134,12 +136,15 @@ module _ (s : State) (es : List Event) (r : Run s (es ++ (done ∷ []))) (f : Fr
         omega (arith, tally-run (supplyOf q) (λ t. notZero (t .mark q)) (step-supply q) s es before, ap notZero e, ap notZero z),
       )
 
-  -- and takes n accepted distances and n gives
+  -- a number of the marks that is 0 at the start and 1 for each place at Done
+  all-of : (k : Event → ℕ) (g : ℕ → ℕ) → ((s : State) (e : Event) → Accepted s e → total g (then s e) ≡ k e + total g s) → g 0 ≡ 0 → g 2 ≡ 1
+      → tally k es ≡ s .size
+  all-of k g step a b =
+      omega (arith, tally-run k (total g) step s es before, total-each g s 0 0 (f .waits) a, total-each g (ran s es) 2 1 (at-done (ran s es) last) b, size-is)
+
+  -- so it takes n accepted distances and n gives
   pub finished : (tally aSupply es ≡ s .size) × (tally aGive es ≡ s .size)
-  finished = (
-    omega (arith, tally-run aSupply (total notZero) step-supplies s es before, total-each notZero s 0 0 (f .waits) refl, total-each notZero (ran s es) 2 1 (at-done (ran s es) last) refl, size-is),
-    omega (arith, tally-run aGive (total isTwo) step-gives s es before, total-each isTwo s 0 0 (f .waits) refl, total-each isTwo (ran s es) 2 1 (at-done (ran s es) last) refl, size-is),
-  )
+  finished = (all-of aSupply notZero step-supplies refl refl, all-of aGive isTwo step-gives refl refl)
 
 -- ---- the count that a call reports is that of the places no longer waiting
 small-mark : (m : ℕ) → m ≤ 2 → oneOrTwo m ≡ notZero m
@@ -151,6 +156,14 @@ small-mark (suc (suc (suc m))) h = absurd (omega arith)
 pub counted-is : (s : State) → Clean s → counted s ≡ notWaiting s
 unfolding counted notWaiting
 counted-is s c = sum-ext (s .size) (λ i. oneOrTwo (s .mark i)) (λ i. notZero (s .mark i)) (λ i h. small-mark (s .mark i) (c .bounded i h))
+
+pub counted-few : (s : State) → counted s ≤ s .size
+unfolding counted
+counted-few s = omega (arith, sum-le 1 (s .size) (λ i. oneOrTwo (s .mark i)) (λ i. few (eqb (s .mark i) 1 || eqb (s .mark i) 2)))
+  where
+    few : (b : Bool) → cond b 1 0 ≤ 1
+    few true = omega arith
+    few false = omega arith
 
 -- ---- a caller that supplies what is asked for comes to Done: in fewer turns than `total left` counts, one for each supply, each Give and the Done
 abbrev left : ℕ → ℕ
@@ -189,7 +202,8 @@ drives (suc n) table s c num h = go (λ t k e l. drives n table t k e l) (answer
       | Done ↦ done ∷ []
     ]
 
-    go : ((t : State) → Clean t → ((q : ℕ) → q < t .size → Num (table q)) → total left t < n → Ends t (drive n table t)) → (x : Answer) → answer s ≡ x → Ends s (turn x)
+    go : ((t : State) → Clean t → ((q : ℕ) → q < t .size → Num (table q)) → total left t < n → Ends t (drive n table t)) → (x : Answer) → answer s ≡ x
+        → Ends s (turn x)
     go again (Ask p) e =
         let d = table p in
         let m = means s c (Ask p) e in

@@ -1,8 +1,8 @@
 -- What `next` and `supply` answer over lent byte buffers: the whole promise of each is one definition. A place has 4 bytes of the
 -- estimates, 4 of the distances and 1 of the marks.
 use mathlib.Core.Bool.{Bool, _||_, cond}
-use mathlib.Core.List.{List, [], _∷_, _++_}
-use Prim.Native.Nat.{ℕ, zero, suc, _*_}
+use mathlib.Core.List.{List, _++_}
+use Prim.Native.Nat.{ℕ, _*_}
 use lib.Dec.{ltb}
 use lib.ListN.{length, getD, set}
 use lib.Seq.{sets}

@@ -7,7 +7,8 @@ use lib.Dec.{eqb}
 use lib.Ieee.{Float, lt, isNan, ofBits, binary32}
 use Rattle.words.specs.Bytes.{numAt, f32At}
 use Rattle.words.specs.Sums.{sumTo}
-use Rattle.rerank.specs.Rerank.{State, answer, supplyRefusal, Event, asked, supply, gave, done, ran, Run, tally, aSupply, aGive, supplyOf, giveOf, drive}
+use Rattle.rerank.specs.Rerank.{State, answer, supplyRefusal, Event, asked, supply, gave, done, ran, Run, tally, aSupply, aGive, supplyOf, giveOf}
+use Rattle.rerank.specs.Rerank.{drive}
 use Rattle.rerank.specs.Calls.{stateOf, nextAnswer, supplyAnswer}
 use Rattle.rerank.specs.declared.Answer.the-variants.{Ask}
 

@@ -5,7 +5,7 @@ use mathlib.Core.List.{List, [], _∷_}
 use mathlib.Core.Option.{Option, none, some}
 use Prim.Native.Nat.{ℕ, zero, suc, _+_, _<_}
 use lib.Dec.{leb, eqb}
-use lib.Ieee.{Float, nan, lt, isNan}
+use lib.Ieee.{Float, lt, isNan}
 use Rattle.words.specs.Lists.{anyBelow}
 use Rattle.words.specs.Sums.{sumTo}
 use Rattle.rerank.specs.declared.Answer.{Answer}

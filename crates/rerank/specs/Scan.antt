@@ -1,6 +1,6 @@
 -- What the private functions of the scan promise. No public promise cites this file.
 use mathlib.Core.Path.{_≡_}
-use mathlib.Core.Bool.{Bool, false, _&&_, _||_, cond}
+use mathlib.Core.Bool.{Bool, false, cond}
 use mathlib.Core.List.{List}
 use Prim.Native.Nat.{ℕ, zero, suc, _+_, _-_, _*_, _%_, _<_, _≤_}
 use lib.Dec.{eqb, leb, ltb}
@@ -38,9 +38,12 @@ unfoldable pub leastKey : ℕ → (ℕ → ℕ) → ℕ
 leastKey zero g = noKey
 leastKey (suc n) g = lesser (leastKey n g) (g n)
 
--- 1 where the place has a NaN: its estimate, or its distance where it is asked
+-- how many NaNs a place of the mark m has, where none may be: its estimate, and its distance where it is asked
+abbrev pub nanOne : ℕ → ℕ
+nanOne u = cond (nanBits binary32 u) 1 0
+
 unfoldable pub lacks : ℕ → ℕ → ℕ → ℕ
-lacks m e d = cond (nanBits binary32 e || (eqb m 1 && nanBits binary32 d)) 1 0
+lacks m e d = nanOne e + cond (eqb m 1) (nanOne d) 0
 
 unfoldable pub lackAt : List ℕ → List ℕ → List ℕ → ℕ → ℕ
 lackAt e d m i = lacks (getD m i 0) (numAt 4 e (4 * i)) (numAt 4 d (4 * i))

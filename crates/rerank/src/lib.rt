@@ -1,17 +1,17 @@
 // Module 9: the reranker, over lent byte buffers. It ports `ErrorFlatReranker` of the Rust's reranker/error.rs: the heaps
 // become one scan over the lists, the callback becomes Ask and supply.
 ghost use mathlib.Core.Path.{_≡_};
-ghost use mathlib.Core.Bool.{false, _||_, _&&_, cond};
-ghost use Prim.Native.Nat.{ℕ, _+_, _*_, _<_, _≤_};
+ghost use mathlib.Core.Bool.{false, cond};
+ghost use Prim.Native.Nat.{_+_, _*_, _<_, _≤_};
 ghost use mathlib.Core.List.{_++_};
 ghost use lib.Dec.{eqb, ltb};
-ghost use lib.ListN.{length, getD};
-ghost use lib.Ieee.{binary32, nanBits, isNan};
+ghost use lib.ListN.{length};
 ghost use Rattle.words.specs.Bytes.{bytesOf, floatBytes};
 ghost use Rattle.words.specs.Limits.{mostPlaces};
 ghost use Rattle.rerank.specs.Rerank.{answer, asksFor};
 ghost use Rattle.rerank.specs.Calls.{stateOf, badLists, nextAnswer, supplyAnswer, answerBytes, answerMarks};
-ghost use Rattle.rerank.specs.Scan.{keyOf, noKey, keyIf, lesser, keyAt, lacks, aboveTwo, notZero, KeysTo, CountsOf, WithBlock, ScanTo, FirstAt, Accepting, Ruled};
+ghost use Rattle.rerank.specs.Scan.{keyOf, noKey, keyIf, lesser, keyAt, nanOne, lacks, aboveTwo, notZero, KeysTo, CountsOf, WithBlock, ScanTo, FirstAt};
+ghost use Rattle.rerank.specs.Scan.{Accepting, Ruled};
 
 // What the rule says to do next: ask for a place's distance, hand a place out, or nothing.
 pub enum Answer {
@@ -45,24 +45,22 @@ fn least_of(a: u32, b: u32) -> u32
     if b < a { b } else { a }
 }
 
-fn is_nan(u: u32) -> bool
-    ensures { λ r. ⌜ r ≡ nanBits binary32 u ⌝ }
+// 1 where the bits are a NaN's.
+fn nan(u: u32) -> u32
+    ensures { λ r. ⌜ (r ≡ nanOne u) × (r ≤ 1) ⌝ }
 {
     let sign = u / 0x8000_0000;
-    0x7F80_0000 < u - sign * 0x8000_0000
+    if 0x7F80_0000 < u - sign * 0x8000_0000 {
+        1
+    } else {
+        0
+    }
 }
 
-// 1 where a place of this mark has a NaN, of its estimate's bits and its distance's.
-fn lack(m: u8, e: u32, d: u32) -> u32
-    ensures { λ r. ⌜ (r ≡ lacks m e d) × (r ≤ 1) ⌝ }
+fn nan_if(is: bool, u: u32) -> u32
+    ensures { λ r. ⌜ (r ≡ cond is (nanOne u) 0) × (r ≤ 1) ⌝ }
 {
-    if is_nan(e) {
-        return 1;
-    }
-    if m != 1 {
-        return 0;
-    }
-    if is_nan(d) { 1 } else { 0 }
+    if is { nan(u) } else { 0 }
 }
 
 // How many NaNs there are, and the least keys of a waiting place and of an asked one.
@@ -72,16 +70,16 @@ struct Keys {
     asked: u32,
 }
 
-// One place more.
+// One place more. It adds and picks without a branch, so that the loop over it goes by vectors.
 fn one_more(s: Keys, m: u8, e: u32, d: u32) -> Keys
-    requires { ⌜ s .missing ≤ mostPlaces ⌝ }
+    requires { ⌜ s .missing ≤ 2 * mostPlaces ⌝ }
     ensures missing { λ r. ⌜ r .missing ≡ s .missing + lacks m e d ⌝ }
     ensures waiting { λ r. ⌜ r .waiting ≡ lesser (s .waiting) (keyIf (eqb m 0) e) ⌝ }
     ensures asked { λ r. ⌜ r .asked ≡ lesser (s .asked) (keyIf (eqb m 1) d) ⌝ }
 {
-    let missing = s.missing + lack(m, e, d);
     let waiting = least_of(s.waiting, key_if(m == 0, e));
     let asked = least_of(s.asked, key_if(m == 1, d));
+    let missing = s.missing + nan(e) + nan_if(m == 1, d);
     Keys {
         missing: missing,
         waiting: waiting,

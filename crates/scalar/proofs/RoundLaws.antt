@@ -194,13 +194,15 @@ module _ (w : Float) (c : ℕ) (from : 0x4B00_0000 ≤ c) (to : c ≤ 0x4B7F_FF0
           let x : m * up e * down d < n * up d * down e = ltb-true _ _ (sym (lt-is m n e d s (h .0)) ∙ q) in
           let f : n * up d * down e ≡ top * down e * down d = ap (λ (z : ℕ). z * down e) value-is ∙ mul-right-comm top (down d) (down e) in
           let z : m * up e < top * down e = lt-of-mul-lt-mul-right (down d) (subst (λ (z : ℕ). m * up e * down d < z) f x) in
-          let k : closest (m * up e) (down e) ≤ top = rw whole at (closest-mono (m * up e) (down e) (n * up d) (down d) (down-pos e) (down-pos d) (le-of-lt x)) in
+          let y = closest-mono (m * up e) (down e) (n * up d) (down d) (down-pos e) (down-pos d) (le-of-lt x) in
+          let k : closest (m * up e) (down e) ≤ top = rw whole at y in
           let r : rounded (m * up e) (down e) ≤ top = rw (rounded-closest (m * up e) (down e)) k in
           rw (min-eq-left r)
           (rounds (fin false m e) (m * up e) (down e) (down-pos e) (le-trans (le-of-lt z) (mul-le-mul-right (down e) l)) (refl, refl))
       go false q =
           let x : n * up d * down e ≤ m * up e * down d = ltb-false _ _ (sym (lt-is m n e d s (h .0)) ∙ q) in
-          let k : top ≤ closest (m * up e) (down e) = rw whole at (closest-mono (n * up d) (down d) (m * up e) (down e) (down-pos d) (down-pos e) x) in
+          let y = closest-mono (n * up d) (down d) (m * up e) (down e) (down-pos d) (down-pos e) x in
+          let k : top ≤ closest (m * up e) (down e) = rw whole at y in
           let r : top ≤ rounded (m * up e) (down e) = rw (rounded-closest (m * up e) (down e)) k in
           rw (min-eq-right r)
           (rounds (fin s n d) top 1 (omega arith) (omega arith) h ∙ ap (λ (z : ℕ). c + z) (whole-is top))

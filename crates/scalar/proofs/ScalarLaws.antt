@@ -133,22 +133,13 @@ added-on s k (suc n) f = ap (λ (x : Float). add binary32 x (f (k + n))) (added-
 pub in-table : (i dims n c : ℕ) → i < dims → c < n → i * n + c < dims * n
 in-table i dims n c h l = omega (arith, mul-le-mul-right n h)
 
--- digit j from dimension 8 * g, which begins a byte
-digit-byte : (w g j : ℕ) → isWidth w ≡ true → 8 * g * w / 8 + j * w / 8 ≡ (8 * g + j) * w / 8
-digit-byte w g j h = by-width (λ w. 8 * g * w / 8 + j * w / 8 ≡ (8 * g + j) * w / 8) (omega arith) (omega arith) (omega arith) (omega arith) w h
-
-digit-bit : (w g j : ℕ) → isWidth w ≡ true → j * w % 8 ≡ (8 * g + j) * w % 8
-digit-bit w g j h = by-width (λ w. j * w % 8 ≡ (8 * g + j) * w % 8) (omega arith) (omega arith) (omega arith) (omega arith) w h
-
-module _ (w at j : ℕ) (h : isWidth w ≡ true) (whole : at % 8 ≡ 0) where
-  eight : 8 * (at / 8) ≡ at
-  eight = omega arith
-
+-- digit j from a dimension that begins a byte
+module _ (w at j : ℕ) (h : isWidth w ≡ true) (whole : at * w % 8 ≡ 0) where
   same-byte : at * w / 8 + j * w / 8 ≡ (at + j) * w / 8
-  same-byte = subst (λ (a : ℕ). a * w / 8 + j * w / 8 ≡ (a + j) * w / 8) eight (digit-byte w (at / 8) j h)
+  same-byte = let e : at * w ≡ 8 * (at * w / 8) = omega arith in omega arith
 
   same-bit : j * w % 8 ≡ (at + j) * w % 8
-  same-bit = subst (λ (a : ℕ). j * w % 8 ≡ (a + j) * w % 8) eight (digit-bit w (at / 8) j h)
+  same-bit = let e : at * w ≡ 8 * (at * w / 8) = omega arith in omega arith
 
   pub byte-within : (dims : ℕ) → at + j < dims → at * w / 8 + j * w / 8 < packedSize w dims
   byte-within dims l =

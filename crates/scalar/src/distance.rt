@@ -19,8 +19,8 @@ fn code_from(levels: u32, s: &[u8], first: usize, o: usize) -> u32
     (b >> (o % 8)) % levels
 }
 
-// s with the entries of m dimensions from at on added, one after the other. Dimension at begins a byte, so that in a group of
-// eight the places of the digits are constants.
+// s with the entries of m dimensions from at on added, one after the other. Dimension at begins a byte, so that in a group the
+// places of the digits are constants.
 fn add_terms(
     bits: usize,
     n: u32,
@@ -31,7 +31,7 @@ fn add_terms(
     table: &[u8],
     code: &[u8],
 ) -> f32
-    requires { ⌜ (isWidth bits ≡ true) × (n ≡ levels bits) × (dims ≤ mostScalarDims) × (length (now table) ≡ tableSize bits dims) × (length (now code) ≡ packedSize bits dims) × (at % 8 ≡ 0) × (at + m ≤ dims) ⌝ }
+    requires { ⌜ (isWidth bits ≡ true) × (n ≡ levels bits) × (dims ≤ mostScalarDims) × (length (now table) ≡ tableSize bits dims) × (length (now code) ≡ packedSize bits dims) × (at * bits % 8 ≡ 0) × (at + m ≤ dims) ⌝ }
     ensures { λ r. ⌜ r ≡ addedTo s m (λ j. termAt bits (now (table .entry)) (now (code .entry)) (at + j)) ⌝ }
 {
     let first = at * bits / 8;
@@ -49,10 +49,10 @@ fn add_terms(
     sum
 }
 
-// The table entries at the code's digits, added from the left. The group of eight is a parameter, so that LLVM unrolls it where
-// the width is known and not before.
+// The table entries at the code's digits, added from the left. The group is a parameter, and not the same for every width, so
+// that LLVM unrolls it where the width is known and not before.
 fn sum_bits(bits: usize, n: u32, group: usize, dims: usize, table: &[u8], code: &[u8]) -> f32
-    requires { ⌜ (group ≡ 8) × (isWidth bits ≡ true) × (n ≡ levels bits) × (dims ≤ mostScalarDims) × (length (now table) ≡ tableSize bits dims) × (length (now code) ≡ packedSize bits dims) ⌝ }
+    requires { ⌜ (0 < group) × (group ≤ 8) × (group * bits % 8 ≡ 0) × (isWidth bits ≡ true) × (n ≡ levels bits) × (dims ≤ mostScalarDims) × (length (now table) ≡ tableSize bits dims) × (length (now code) ≡ packedSize bits dims) ⌝ }
     ensures { λ r. ⌜ r ≡ sumOf bits dims (now (table .entry)) (now (code .entry)) ⌝ }
 {
     let mut s: f32 = 0.0;
@@ -70,7 +70,7 @@ pub fn sum(w: Width, dims: usize, table: &[u8], code: &[u8]) -> f32
 {
     match w {
         Width::One => sum_bits(1, Width::LEVELS_1, 8, dims, table, code),
-        Width::Two => sum_bits(2, Width::LEVELS_2, 8, dims, table, code),
+        Width::Two => sum_bits(2, Width::LEVELS_2, 4, dims, table, code),
         Width::Four => sum_bits(4, Width::LEVELS_4, 8, dims, table, code),
         Width::Eight => sum_bits(8, Width::LEVELS_8, 8, dims, table, code),
     }

@@ -34,7 +34,11 @@ u32-at-requires-2 : tie.Need-u32-at-requires-2 Inv-loop μ-loop
 u32-at-requires-2 c κs = let z = sized-of _ _ _ (c .before .before .before .before .before .before .before .pre .0) in omega arith
 
 one-more-requires : tie.Need-one-more-requires Inv-loop μ-loop
-one-more-requires c κs = let z = sized-of _ _ _ (c .before .before .before .before .before .before .before .before .pre .0) in omega (arith, keys-few _ _ _ _ _ (c .before .before .before .before .loop .inv .3))
+one-more-requires c κs =
+    let pre = c .before .before .before .before .before .before .before .before .pre in
+    let loop = c .before .before .before .before .loop .inv in
+    let z = sized-of _ _ _ (pre .0) in
+    omega (arith, keys-few _ _ _ _ _ (loop .3))
 
 add-i : tie.Need-add-i Inv-loop μ-loop
 add-i c = search needs
@@ -43,7 +47,11 @@ loop-less : tie.Need-loop-less Inv-loop μ-loop
 loop-less c = search needs
 
 loop-again : tie.Need-loop-again Inv-loop μ-loop
-loop-again c = (omega arith, omega arith, omega arith, keys-more _ _ _ _ _ _ _ _ _ (c .before .before .before .before .before .loop .inv .3) refl (c .before .before .u32-at .ensures) (c .before .u32-at2 .ensures) (c .one-more .ensures))
+loop-again c =
+    let loop = c .before .before .before .before .before .loop .inv in
+    let u32a = c .before .before .u32-at .ensures in
+    let u32a2 = c .before .u32-at2 .ensures in
+    (omega arith, omega arith, omega arith, keys-more _ _ _ _ _ _ _ _ _ (loop .3) refl u32a u32a2 (c .one-more .ensures))
 
 returns : tie.Need-returns Inv-loop μ-loop
 returns c =

@@ -21,13 +21,24 @@ first-at-requires-2 : tie.Need-first-at-requires-2
 first-at-requires-2 c κs = sized-of _ _ _ (c .before .before .before .before .before .before .before .before .pre .sized) .distances
 
 cast-t10 : tie.Need-cast-t10
-cast-t10 c = omega (arith, give-small _ _ _ _ (c .before .before .before .before .before .before .before .before .before .pre) _ (c .before .before .before .if1 .left) (c .before .if2 .left) (c .first-at2 .ensures))
+cast-t10 c =
+    let pre = c .before .before .before .before .before .before .before .before .before .pre in
+    let if1 = c .before .before .before .if1 .left in
+    omega (arith, give-small _ _ _ _ pre _ if1 (c .before .if2 .left) (c .first-at2 .ensures))
 
 f32-at-requires : tie.Need-f32-at-requires
-f32-at-requires c κs = give-room _ _ _ _ (c .before .before .before .before .before .before .before .before .before .pre) _ (c .before .before .before .if1 .left) (c .before .if2 .left) (c .first-at2 .ensures)
+f32-at-requires c κs =
+    let pre = c .before .before .before .before .before .before .before .before .before .pre in
+    let if1 = c .before .before .before .if1 .left in
+    give-room _ _ _ _ pre _ if1 (c .before .if2 .left) (c .first-at2 .ensures)
 
 returns-3 : tie.Need-returns-3
-returns-3 c = rw (c .f32-at .ensures) (says-give _ _ _ _ (c .before .before .before .before .before .before .before .before .before .before .pre) _ (c .before .before .before .before .if1 .left) (c .before .before .if2 .left) (c .before .first-at2 .ensures))
+returns-3 c =
+    let pre = c .before .before .before .before .before .before .before .before .before .before .pre in
+    let if1 = c .before .before .before .before .if1 .left in
+    let if2 = c .before .before .if2 .left in
+    let first = c .before .first-at2 .ensures in
+    rw (c .f32-at .ensures) (says-give _ _ _ _ pre _ if1 if2 first)
 
 pub choose-spec : {M : Type 1} → statement M
 choose-spec =

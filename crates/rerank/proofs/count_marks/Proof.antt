@@ -42,7 +42,10 @@ loop-less : tie.Need-loop-less Inv-loop μ-loop
 loop-less c = search needs
 
 loop-again : tie.Need-loop-again Inv-loop μ-loop
-loop-again c = (omega arith, omega arith, counts-more _ _ _ _ _ _ _ (c .before .before .before .before .before .loop .inv .2) (c .before .before .above-two .ensures .0) (c .before .before .above-two .ensures .1) (c .not-zero .ensures .0) (c .not-zero .ensures .1))
+loop-again c =
+    let loop = c .before .before .before .before .before .loop .inv in
+    let abovet = c .before .before .above-two .ensures in
+    (omega arith, omega arith, counts-more _ _ _ _ _ _ _ (loop .2) (abovet .0) (abovet .1) (c .not-zero .ensures .0) (c .not-zero .ensures .1))
 
 returns : tie.Need-returns Inv-loop μ-loop
 returns c =

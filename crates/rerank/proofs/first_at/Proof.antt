@@ -31,7 +31,11 @@ key-if-requires : tie.Need-key-if-requires Inv-loop μ-loop
 key-if-requires c κs = search needs
 
 returns : tie.Need-returns Inv-loop μ-loop
-returns c = first-found _ _ _ _ _ _ (omega arith) (key-at _ _ _ _ _ _ (c .before .before .u32-at .ensures) (c .before .key-if .ensures)) (c .if1 .taken) (c .before .before .before .before .before .loop .inv .1)
+returns c =
+    let loop = c .before .before .before .before .before .loop .inv in
+    let u32a = c .before .before .u32-at .ensures in
+    let keyi = c .before .key-if .ensures in
+    first-found _ _ _ _ _ _ (omega arith) (key-at _ _ _ _ _ _ u32a keyi) (c .if1 .taken) (loop .1)
 
 add-i : tie.Need-add-i Inv-loop μ-loop
 add-i c = search needs
@@ -40,7 +44,11 @@ loop-less : tie.Need-loop-less Inv-loop μ-loop
 loop-less c = search needs
 
 loop-again : tie.Need-loop-again Inv-loop μ-loop
-loop-again c = (refl, first-more _ _ _ _ _ (key-at _ _ _ _ _ _ (c .before .before .u32-at .ensures) (c .before .key-if .ensures)) (c .if1 .left) (c .before .before .before .before .before .loop .inv .1))
+loop-again c =
+    let loop = c .before .before .before .before .before .loop .inv in
+    let u32a = c .before .before .u32-at .ensures in
+    let keyi = c .before .key-if .ensures in
+    (refl, first-more _ _ _ _ _ (key-at _ _ _ _ _ _ u32a keyi) (c .if1 .left) (loop .1))
 
 returns-2 : tie.Need-returns-2 Inv-loop μ-loop
 returns-2 c = first-nowhere _ _ _ _ _ (omega arith) (c .before .loop .inv .1)

@@ -1,6 +1,5 @@
 -- `rerank::least_of` meets its contract. Assumes nothing.
 use borrow.Author.Tests.{lt-ltb, le-ltb}
-use native.Mathlib.Omega.{arith}
 use Rattle.rerank.proofs.least_of.Statement.{statement}
 use Rattle.rerank.proofs.least_of.Tie as tie
 

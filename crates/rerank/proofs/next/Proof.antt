@@ -28,8 +28,11 @@ same-length-3 c = search needs
 
 returns-3 : tie.Need-returns-3
 returns-3 c =
-    let b = c .before .before .before .before .before .before .bad-lists .ensures in
-    next-refused _ _ _ _ _ b (c .before .before .before .before .before .if1 .left) (c .before .before .before .before .if2 .left) _ (c .before .before .rule-on .ensures) (c .if3 .taken)
+    let lists = c .before .before .before .before .before .before .bad-lists .ensures in
+    let if1 = c .before .before .before .before .before .if1 .left in
+    let if2 = c .before .before .before .before .if2 .left in
+    let ruled = c .before .before .rule-on .ensures in
+    next-refused _ _ _ _ _ lists if1 if2 _ ruled (c .if3 .taken)
 
 mark-given-requires : tie.Need-mark-given-requires
 mark-given-requires c κs = search needs
@@ -45,10 +48,15 @@ same-length-5 c = search needs
 
 returns-4 : tie.Need-returns-4
 returns-4 c =
-    let b = c .before .before .before .before .before .before .before .before .before .before .before .before .before .before .bad-lists .ensures in
-    let t = c .before .before .before .before .before .before .before .before .before .before .before .before .before .if1 .left in
-    let o = c .before .before .before .before .before .before .before .before .before .before .before .before .if2 .left in
-    next-accepted _ _ _ _ _ b t o _ (c .before .before .before .before .before .before .before .before .before .before .rule-on .ensures) _ _ (c .before .before .before .before .before .before .before .before .if3 .left) (c .before .before .before .before .before .before .mark-given .ensures) (c .before .before .put-answer .ensures)
+    let far = c .before .before .before .before .before .before .before .before .before .before .before .before in
+    let lists = far .before .before .bad-lists .ensures in
+    let if1 = c .before .before .before .before .before .before .before .before .before .before .before .before .before .if1 .left in
+    let if2 = c .before .before .before .before .before .before .before .before .before .before .before .before .if2 .left in
+    let ruled = c .before .before .before .before .before .before .before .before .before .before .rule-on .ensures in
+    let if3 = c .before .before .before .before .before .before .before .before .if3 .left in
+    let marked = c .before .before .before .before .before .before .mark-given .ensures in
+    let written = c .before .before .put-answer .ensures in
+    next-accepted _ _ _ _ _ lists if1 if2 _ ruled _ _ if3 marked written
 
 pub next-spec : {M : Type 1} → statement M
 next-spec =

@@ -1,16 +1,10 @@
 -- `rerank::one_more` meets its contract. Assumes nothing.
 use mathlib.Core.Path.{ap, _∙_}
 use native.Mathlib.Omega.{arith}
-use Rattle.rerank.specs.Scan.{lesser}
+use Rattle.rerank.specs.Scan.{lesser, lacks}
 use borrow.Author.Needs.{needs}
 use Rattle.rerank.proofs.one_more.Statement.{statement}
 use Rattle.rerank.proofs.one_more.Tie as tie
-
-lack-requires : tie.Need-lack-requires
-lack-requires c κs = search needs
-
-add-missing : tie.Need-add-missing
-add-missing c = search needs
 
 key-if-requires : tie.Need-key-if-requires
 key-if-requires c κs = search needs
@@ -24,17 +18,35 @@ key-if-requires-2 c κs = search needs
 least-of-requires-2 : tie.Need-least-of-requires-2
 least-of-requires-2 c κs = search needs
 
+nan-requires : tie.Need-nan-requires
+nan-requires c κs = search needs
+
+add-missing : tie.Need-add-missing
+add-missing c = search needs
+
+nan-if-requires : tie.Need-nan-if-requires
+nan-if-requires c κs = search needs
+
+add-missing-2 : tie.Need-add-missing-2
+add-missing-2 c = search needs
+
 returns : tie.Need-returns
-returns c = (omega (arith, c .before .before .before .before .before .lack .ensures .0), (c .before .before .least-of .ensures ∙ ap (lesser _) (c .before .before .before .key-if .ensures), c .least-of2 .ensures ∙ ap (lesser _) (c .before .key-if2 .ensures)))
+unfolding lacks
+returns c =
+    let waiting = c .before .before .before .before .before .least-of .ensures ∙ ap (lesser _) (c .before .before .before .before .before .before .key-if .ensures) in
+    let asked = c .before .before .before .least-of2 .ensures ∙ ap (lesser _) (c .before .before .before .before .key-if2 .ensures) in
+    (omega (arith, c .before .before .nan .ensures .0, c .nan-if .ensures .0), (waiting, asked))
 
 pub one-more-spec : {M : Type 1} → statement M
 one-more-spec =
     tie.close
     (tie.spec
-    lack-requires
-    add-missing
     key-if-requires
     least-of-requires
     key-if-requires-2
     least-of-requires-2
+    nan-requires
+    add-missing
+    nan-if-requires
+    add-missing-2
     returns)

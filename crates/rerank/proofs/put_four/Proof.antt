@@ -20,7 +20,14 @@ same-length : tie.Need-same-length
 same-length c = search needs
 
 returns : tie.Need-returns
-returns c = four-stores _ _ _ _ _ _ _ _ _ (c .before .before .before .before .before .before .before .before .before .before .before .before .before .before .before .before .before .pre) (c .before .before .before .before .before .before .before .before .before .before .before .before .before .before .put-u32 .ensures) (c .before .before .before .before .before .before .before .before .before .before .put-u322 .ensures) (c .before .before .before .before .before .before .put-f32 .ensures) (c .before .before .put-u323 .ensures)
+returns c =
+    let far = c .before .before .before .before .before .before .before .before .before .before .before .before in
+    let pre = far .before .before .before .before .before .pre in
+    let putu = c .before .before .before .before .before .before .before .before .before .before .before .before .before .before .put-u32 .ensures in
+    let putu2 = c .before .before .before .before .before .before .before .before .before .before .put-u322 .ensures in
+    let putf = c .before .before .before .before .before .before .put-f32 .ensures in
+    let putu3 = c .before .before .put-u323 .ensures in
+    four-stores _ _ _ _ _ _ _ _ _ pre putu putu2 putf putu3
 
 pub put-four-spec : {M : Type 1} → statement M
 put-four-spec =

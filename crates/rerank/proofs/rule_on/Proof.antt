@@ -15,11 +15,18 @@ returns : tie.Need-returns
 returns c = ruled-refused _ _ _ _ _ (c .before .before .scan-lists .ensures) (c .before .refusal .ensures) (c .if1 .taken)
 
 choose-requires : tie.Need-choose-requires
-choose-requires c κs = accepting _ _ _ _ _ (c .before .before .before .before .before .before .pre) (c .before .before .scan-lists .ensures) (c .before .refusal .ensures) (c .if1 .left)
+choose-requires c κs =
+    let pre = c .before .before .before .before .before .before .pre in
+    let scan = c .before .before .scan-lists .ensures in
+    let refusal = c .before .refusal .ensures in
+    accepting _ _ _ _ _ pre scan refusal (c .if1 .left)
 
 returns-2 : tie.Need-returns-2
 returns-2 c =
-    let k = accepting _ _ _ _ _ (c .before .before .before .before .before .before .before .pre) (c .before .before .before .scan-lists .ensures) (c .before .before .refusal .ensures) (c .before .if1 .left) in
+    let pre = c .before .before .before .before .before .before .before .pre in
+    let scan = c .before .before .before .scan-lists .ensures in
+    let refusal = c .before .before .refusal .ensures in
+    let k = accepting _ _ _ _ _ pre scan refusal (c .before .if1 .left) in
     ruled-accepted _ _ _ _ _ k refl (c .choose .ensures) refl
 
 pub rule-on-spec : {M : Type 1} → statement M

@@ -25,7 +25,10 @@ count-marks-requires : tie.Need-count-marks-requires Inv-loop μ-loop
 count-marks-requires c κs = search needs
 
 add-keys-requires : tie.Need-add-keys-requires Inv-loop μ-loop
-add-keys-requires c κs = (c .before .before .before .before .before .before .before .pre, ((omega arith, omega arith), c .before .before .before .loop .inv .2 .keys))
+add-keys-requires c κs =
+    let pre = c .before .before .before .before .before .before .before .pre in
+    let loop = c .before .before .before .loop .inv in
+    (pre, ((omega arith, omega arith), loop .2 .keys))
 
 add-block-requires : tie.Need-add-block-requires Inv-loop μ-loop
 add-block-requires c κs =
@@ -37,7 +40,11 @@ loop-less : tie.Need-loop-less Inv-loop μ-loop
 loop-less c = search needs
 
 loop-again : tie.Need-loop-again Inv-loop μ-loop
-loop-again c = (refl, omega arith, scan-more _ _ _ _ _ _ _ _ _ (omega arith) (c .before .before .before .before .before .loop .inv .2) (c .before .before .count-marks .ensures) (c .before .add-keys .ensures) (c .add-block .ensures))
+loop-again c =
+    let loop = c .before .before .before .before .before .loop .inv in
+    let countm = c .before .before .count-marks .ensures in
+    let addk = c .before .add-keys .ensures in
+    (refl, omega arith, scan-more _ _ _ _ _ _ _ _ _ (omega arith) (loop .2) countm addk (c .add-block .ensures))
 
 returns : tie.Need-returns Inv-loop μ-loop
 returns c =

@@ -2,7 +2,8 @@
 use mathlib.Core.Path.{refl, sym, _∙_}
 use native.Mathlib.Omega.{arith}
 use borrow.Author.Tests.{not-true, not-false}
-use Rattle.rerank.proofs.CallLaws.{supply-lists, supply-out, supply-nan, supply-refused, supply-unasked, supply-accepted, asked-inside, asked-room, count-room}
+use Rattle.rerank.proofs.CallLaws.{supply-lists, supply-out, supply-nan, supply-refused, supply-unasked, supply-accepted, asked-inside, asked-room}
+use Rattle.rerank.proofs.CallLaws.{count-room}
 use borrow.Author.Needs.{needs}
 use Rattle.rerank.proofs.supply.Statement.{statement}
 use Rattle.rerank.proofs.supply.Tie as tie
@@ -48,9 +49,12 @@ same-length-8 c = search needs
 
 returns-4 : tie.Need-returns-4
 returns-4 c =
-    let b = c .before .before .before .before .before .before .before .before .bad-lists .ensures in
-    let t = c .before .before .before .before .before .before .before .if1 .left in
-    supply-refused _ _ _ _ _ _ _ b t (c .before .before .before .before .before .before .if2 .left) (c .before .before .before .before .before .if3 .left) _ (c .before .before .rule-on .ensures) (c .if4 .taken)
+    let lists = c .before .before .before .before .before .before .before .before .bad-lists .ensures in
+    let if1 = c .before .before .before .before .before .before .before .if1 .left in
+    let if2 = c .before .before .before .before .before .before .if2 .left in
+    let if3 = c .before .before .before .before .before .if3 .left in
+    let ruled = c .before .before .rule-on .ensures in
+    supply-refused _ _ _ _ _ _ _ lists if1 if2 if3 _ ruled (c .if4 .taken)
 
 asks-for-requires : tie.Need-asks-for-requires
 asks-for-requires c κs = search needs
@@ -63,30 +67,51 @@ same-length-10 c = search needs
 
 returns-5 : tie.Need-returns-5
 returns-5 c =
-    let b = c .before .before .before .before .before .before .before .before .before .before .bad-lists .ensures in
-    let t = c .before .before .before .before .before .before .before .before .before .if1 .left in
-    let a = sym (c .before .asks-for .ensures) ∙ not-true _ (c .if5 .taken) in
-    supply-unasked _ _ _ _ _ _ _ b t (c .before .before .before .before .before .before .before .before .if2 .left) (c .before .before .before .before .before .before .before .if3 .left) _ (c .before .before .before .before .rule-on .ensures) (c .before .before .if4 .left) a
+    let lists = c .before .before .before .before .before .before .before .before .before .before .bad-lists .ensures in
+    let if1 = c .before .before .before .before .before .before .before .before .before .if1 .left in
+    let if2 = c .before .before .before .before .before .before .before .before .if2 .left in
+    let if3 = c .before .before .before .before .before .before .before .if3 .left in
+    let ruled = c .before .before .before .before .rule-on .ensures in
+    let if4 = c .before .before .if4 .left in
+    let asks = c .before .asks-for .ensures in
+    let a = sym asks ∙ not-true _ (c .if5 .taken) in
+    supply-unasked _ _ _ _ _ _ _ lists if1 if2 if3 _ ruled if4 a
 
 mul-put-f32 : tie.Need-mul-put-f32
 mul-put-f32 c = search needs
 
 put-f32-requires : tie.Need-put-f32-requires
 put-f32-requires c κs =
-    let b = sym (c .before .before .before .before .before .before .before .before .before .before .before .bad-lists .ensures) ∙ c .before .before .before .before .before .before .before .before .before .before .if1 .left in
-    let a = sym (c .before .before .asks-for .ensures) ∙ not-false _ (c .before .if5 .left) in
-    asked-room _ _ _ _ (c .before .before .before .before .before .rule-on .ensures) (c .before .before .before .if4 .left) _ a b
+    let lists = c .before .before .before .before .before .before .before .before .before .before .before .bad-lists .ensures in
+    let if1 = c .before .before .before .before .before .before .before .before .before .before .if1 .left in
+    let ruled = c .before .before .before .before .before .rule-on .ensures in
+    let if4 = c .before .before .before .if4 .left in
+    let asks = c .before .before .asks-for .ensures in
+    let b = sym lists ∙ if1 in
+    let a = sym asks ∙ not-false _ (c .before .if5 .left) in
+    asked-room _ _ _ _ ruled if4 _ a b
 
 slice-write-marks : tie.Need-slice-write-marks
 slice-write-marks c =
-    let a = sym (c .before .before .before .before .before .asks-for .ensures) ∙ not-false _ (c .before .before .before .before .if5 .left) in
-    asked-inside _ _ _ _ (c .before .before .before .before .before .before .before .before .rule-on .ensures) (c .before .before .before .before .before .before .if4 .left) _ a
+    let ruled = c .before .before .before .before .before .before .before .before .rule-on .ensures in
+    let if4 = c .before .before .before .before .before .before .if4 .left in
+    let asks = c .before .before .before .before .before .asks-for .ensures in
+    let if5 = c .before .before .before .before .if5 .left in
+    let a = sym asks ∙ not-false _ if5 in
+    asked-inside _ _ _ _ ruled if4 _ a
 
 add-put-number : tie.Need-add-put-number
 add-put-number c =
-    let b = sym (c .before .before .before .before .before .before .before .before .before .before .before .before .before .before .before .before .bad-lists .ensures) ∙ c .before .before .before .before .before .before .before .before .before .before .before .before .before .before .before .if1 .left in
-    let a = sym (c .before .before .before .before .before .before .before .asks-for .ensures) ∙ not-false _ (c .before .before .before .before .before .before .if5 .left) in
-    omega (arith, count-room _ _ _ _ (c .before .before .before .before .before .before .before .before .before .before .rule-on .ensures) (c .before .before .before .before .before .before .before .before .if4 .left) _ a b)
+    let far = c .before .before .before .before .before .before .before .before .before .before .before .before in
+    let lists = far .before .before .before .before .bad-lists .ensures in
+    let if1 = c .before .before .before .before .before .before .before .before .before .before .before .before .before .before .before .if1 .left in
+    let ruled = c .before .before .before .before .before .before .before .before .before .before .rule-on .ensures in
+    let if4 = c .before .before .before .before .before .before .before .before .if4 .left in
+    let asks = c .before .before .before .before .before .before .before .asks-for .ensures in
+    let if5 = c .before .before .before .before .before .before .if5 .left in
+    let b = sym lists ∙ if1 in
+    let a = sym asks ∙ not-false _ if5 in
+    omega (arith, count-room _ _ _ _ ruled if4 _ a b)
 
 put-number-requires : tie.Need-put-number-requires
 put-number-requires c κs = search needs
@@ -102,11 +127,19 @@ same-length-13 c = search needs
 
 returns-6 : tie.Need-returns-6
 returns-6 c =
-    let b = c .before .before .before .before .before .before .before .before .before .before .before .before .before .before .before .before .before .before .before .bad-lists .ensures in
-    let t = c .before .before .before .before .before .before .before .before .before .before .before .before .before .before .before .before .before .before .if1 .left in
-    let k = c .before .before .before .before .before .before .before .before .before .before .before .before .before .rule-on .ensures in
-    let a = sym (c .before .before .before .before .before .before .before .before .before .before .asks-for .ensures) ∙ not-false _ (c .before .before .before .before .before .before .before .before .before .if5 .left) in
-    supply-accepted _ _ _ _ _ _ _ b t (c .before .before .before .before .before .before .before .before .before .before .before .before .before .before .before .before .before .if2 .left) (c .before .before .before .before .before .before .before .before .before .before .before .before .before .before .before .before .if3 .left) _ k (c .before .before .before .before .before .before .before .before .before .before .before .if4 .left) _ _ _ a (c .before .before .before .before .before .before .before .put-f32 .ensures) refl (c .before .before .put-number .ensures)
+    let far = c .before .before .before .before .before .before .before .before .before .before .before .before in
+    let lists = far .before .before .before .before .before .before .before .bad-lists .ensures in
+    let if1 = far .before .before .before .before .before .before .if1 .left in
+    let if2 = far .before .before .before .before .before .if2 .left in
+    let if3 = far .before .before .before .before .if3 .left in
+    let ruled = c .before .before .before .before .before .before .before .before .before .before .before .before .before .rule-on .ensures in
+    let if4 = c .before .before .before .before .before .before .before .before .before .before .before .if4 .left in
+    let asks = c .before .before .before .before .before .before .before .before .before .before .asks-for .ensures in
+    let if5 = c .before .before .before .before .before .before .before .before .before .if5 .left in
+    let putf = c .before .before .before .before .before .before .before .put-f32 .ensures in
+    let putn = c .before .before .put-number .ensures in
+    let a = sym asks ∙ not-false _ if5 in
+    supply-accepted _ _ _ _ _ _ _ lists if1 if2 if3 _ ruled if4 _ _ _ a putf refl putn
 
 pub supply-spec : {M : Type 1} → statement M
 supply-spec =

@@ -8,13 +8,16 @@ use Rattle.scalar.proofs.code.code_at.Statement.{statement}
 use Rattle.scalar.proofs.code.code_at.Tie as tie
 
 finite-at-requires : tie.Need-finite-at-requires
-finite-at-requires c κs = let p = c .before .before .before .pre in (omega arith, none-missing _ _ (p .0 .vector-there) (c .before .before .before .args .i) (p .1))
+finite-at-requires c κs =
+    let s = c .before .before .before in (omega arith, none-missing _ _ (s .pre .0 .vector-there) (s .args .i) (s .pre .1))
 
 finite-at-requires-2 : tie.Need-finite-at-requires-2
-finite-at-requires-2 c κs = let p = c .before .before .before .before .pre in (omega arith, none-missing _ _ (p .0 .lo-there) (c .before .before .before .before .args .i) (p .1))
+finite-at-requires-2 c κs =
+    let s = c .before .before .before .before in (omega arith, none-missing _ _ (s .pre .0 .lo-there) (s .args .i) (s .pre .1))
 
 finite-at-requires-3 : tie.Need-finite-at-requires-3
-finite-at-requires-3 c κs = let p = c .before .before .before .before .before .pre in (omega arith, none-missing _ _ (p .0 .hi-there) (c .before .before .before .before .before .args .i) (p .1))
+finite-at-requires-3 c κs =
+    let s = c .before .before .before .before .before in (omega arith, none-missing _ _ (s .pre .0 .hi-there) (s .args .i) (s .pre .1))
 
 del-of-requires : tie.Need-del-of-requires
 del-of-requires c κs = search needs
@@ -24,15 +27,9 @@ code-of-requires c κs = search needs
 
 returns : tie.Need-returns
 unfolding codeAt quotient
-returns c = rw (c .code-of .ensures, c .before .del-of .ensures, c .before .before .before .before .finite-at .ensures, c .before .before .before .finite-at2 .ensures, c .before .before .finite-at3 .ensures) refl
+returns c =
+    let f = c .before .before in
+    rw (c .code-of .ensures, c .before .del-of .ensures, f .before .before .finite-at .ensures, f .before .finite-at2 .ensures, f .finite-at3 .ensures) refl
 
 pub code-at-spec : {M : Type 1} → statement M
-code-at-spec =
-    tie.close
-    (tie.spec
-    finite-at-requires
-    finite-at-requires-2
-    finite-at-requires-3
-    del-of-requires
-    code-of-requires
-    returns)
+code-at-spec = tie.close (tie.spec finite-at-requires finite-at-requires-2 finite-at-requires-3 del-of-requires code-of-requires returns)

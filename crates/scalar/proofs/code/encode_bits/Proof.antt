@@ -95,7 +95,8 @@ returns c =
     let s = c .before .before .before .before .before .before .before .before in
     let a = s .args in
     let n = a .dims - l .at in
-    let e = last-codes (a .bits) (a .dims) (a .vector .now) (a .lo .now) (a .hi .now) (l .k) (l .at) n (a .top) (l .inv .0) (omega arith) (s .pre .1 .2) (omega arith) in
+    let t = s .pre .1 .2 in
+    let e = last-codes (a .bits) (a .dims) (a .vector .now) (a .lo .now) (a .hi .now) (l .k) (l .at) n (a .top) (l .inv .0) (omega arith) t (omega arith) in
     scalar-filled (a .bits) (a .dims) (a .vector .now) (a .lo .now) (a .hi .now) _ (simp length-set (l .inv .2))
     (rw (left c) (filled-more _ (l .out) (l .k) (c .join-at2 .result) (omega (arith, left c)) (l .inv .3) (c .join-at2 .ensures ∙ e)))
 

@@ -77,7 +77,8 @@ loop-again c =
     let l = c .before .before .before .loop in
     let a = c .before .before .before .before .before .before .args in
     let r = c .before .code-from in
-    let e = term-is (a .bits) (a .at) (l .j) (p .0) (p .5) (l .o) (l .row) (r .result) (a .n) (a .table .now) (a .code .now) (l .inv .1) (l .inv .2) (p .1) (r .ensures .0) in (
+    let t = term-is (a .bits) (a .at) (l .j) (p .0) (p .5) (l .o) (l .row) (r .result) (a .n) (a .table .now) (a .code .now) in
+    let e = t (l .inv .1) (l .inv .2) (p .1) (r .ensures .0) in (
       omega arith,
       rw (l .inv .1) (omega arith),
       rw (l .inv .2, p .1) (omega arith),

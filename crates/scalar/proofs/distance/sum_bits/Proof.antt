@@ -1,5 +1,5 @@
--- `scalar::distance::sum_bits` meets its contract, over the width: eight dimensions a turn, then what is left. Assumes nothing.
-use Prim.Native.Nat.{_+_, _%_, _-_, _≤_}
+-- `scalar::distance::sum_bits` meets its contract, over the width: a group of dimensions a turn, then what is left. Assumes nothing.
+use Prim.Native.Nat.{_+_, _*_, _%_, _-_, _≤_}
 use mathlib.Core.Bool.{false}
 use mathlib.Core.Path.{_≡_, refl, _∙_}
 use native.Mathlib.Omega.{arith}
@@ -12,7 +12,7 @@ use Rattle.scalar.proofs.distance.sum_bits.Tie as tie
 
 abbrev Inv-loop : tie.InvT-loop
 Inv-loop bits n group dims table code s₀ at₀ s at =
-    (at ≤ dims) × (at % 8 ≡ 0) × (s ≡ addedTo (fin false 0 (pos 0)) at (termAt bits table code))
+    (at ≤ dims) × (at * bits % 8 ≡ 0) × (s ≡ addedTo (fin false 0 (pos 0)) at (termAt bits table code))
 
 abbrev μ-loop : tie.MeasureT-loop
 μ-loop bits n group dims table code s₀ at₀ s at = dims - at
@@ -25,7 +25,7 @@ add-loop c = omega arith
 
 add-terms-requires : tie.Need-add-terms-requires Inv-loop μ-loop
 add-terms-requires c κs =
-    let p = c .before .before .before .before .pre in (p .1, p .2, p .3, p .4, p .5, c .before .loop .inv .1, c .loop-test .taken)
+    let p = c .before .before .before .before .pre in (p .3, p .4, p .5, p .6, p .7, c .before .loop .inv .1, c .loop-test .taken)
 
 add-at : tie.Need-add-at Inv-loop μ-loop
 add-at c = omega arith
@@ -45,7 +45,7 @@ sub-add-terms c = omega arith
 
 add-terms-requires-2 : tie.Need-add-terms-requires-2 Inv-loop μ-loop
 add-terms-requires-2 c κs =
-    let p = c .before .before .before .before .pre in (p .1, p .2, p .3, p .4, p .5, c .before .loop .inv .1, omega arith)
+    let p = c .before .before .before .before .pre in (p .3, p .4, p .5, p .6, p .7, c .before .loop .inv .1, omega arith)
 
 returns : tie.Need-returns Inv-loop μ-loop
 unfolding sumOf

@@ -10,28 +10,40 @@ enum-told c = search needs
 
 fill-rows-requires : tie.Need-fill-rows-requires
 unfolding isWidth
-fill-rows-requires c κs = let p = rw (c .before .enum-told .given .1) at (c .before .before .before .before .before .before .before .pre .1) in (c .before .before .before .before .before .before .before .pre .0, (refl, refl, refl, p))
+fill-rows-requires c κs =
+    let s = c .before .before .before .before .before .before .before .pre in
+    let p = rw (c .before .enum-told .given .1) at (s .1) in
+    (s .0, (refl, refl, refl, p))
 
 enum-told-2 : tie.Need-enum-told-2
 enum-told-2 c = search needs
 
 fill-rows-requires-2 : tie.Need-fill-rows-requires-2
 unfolding isWidth
-fill-rows-requires-2 c κs = let p = rw (c .before .enum-told2 .given .1) at (c .before .before .before .before .before .before .before .pre .1) in (c .before .before .before .before .before .before .before .pre .0, (refl, refl, refl, p))
+fill-rows-requires-2 c κs =
+    let s = c .before .before .before .before .before .before .before .pre in
+    let p = rw (c .before .enum-told2 .given .1) at (s .1) in
+    (s .0, (refl, refl, refl, p))
 
 enum-told-3 : tie.Need-enum-told-3
 enum-told-3 c = search needs
 
 fill-rows-requires-3 : tie.Need-fill-rows-requires-3
 unfolding isWidth
-fill-rows-requires-3 c κs = let p = rw (c .before .enum-told3 .given .1) at (c .before .before .before .before .before .before .before .pre .1) in (c .before .before .before .before .before .before .before .pre .0, (refl, refl, refl, p))
+fill-rows-requires-3 c κs =
+    let s = c .before .before .before .before .before .before .before .pre in
+    let p = rw (c .before .enum-told3 .given .1) at (s .1) in
+    (s .0, (refl, refl, refl, p))
 
 enum-told-4 : tie.Need-enum-told-4
 enum-told-4 c = search needs
 
 fill-rows-requires-4 : tie.Need-fill-rows-requires-4
 unfolding isWidth
-fill-rows-requires-4 c κs = let p = rw (c .before .enum-told4 .given .1) at (c .before .before .before .before .before .before .before .pre .1) in (c .before .before .before .before .before .before .before .pre .0, (refl, refl, refl, p))
+fill-rows-requires-4 c κs =
+    let s = c .before .before .before .before .before .before .before .pre in
+    let p = rw (c .before .enum-told4 .given .1) at (s .1) in
+    (s .0, (refl, refl, refl, p))
 
 same-length : tie.Need-same-length
 same-length c = search needs

@@ -83,11 +83,12 @@ loop-again c =
     let a = s .args in
     let l = c .before .before .before .before .before .before .before .before .before .loop in
     let g = row (a .m) (a .bits) (a .vector .now) (a .lo .now) (a .hi .now) in
-    let f = c .before .before .before .before .before in (
+    let d = c .before .before .before .before in
+    let f = d .before in (
       omega arith,
       rw (l .inv .1, p .1) (omega arith),
       c .before .before .put-row .ensures
-          ∙ rw (c .before .before .before .before .del-of .ensures, f .before .before .finite-at .ensures, f .before .finite-at2 .ensures, f .finite-at3 .ensures, p .1, p .2, l .inv .2)
+          ∙ rw (d .del-of .ensures, f .before .before .finite-at .ensures, f .before .finite-at2 .ensures, f .finite-at3 .ensures, p .1, p .2, l .inv .2)
           (piece-more (levels (a .bits) * 4) g (λ i. length-row (levels (a .bits)) _) (a .out .now) 0 (l .i) (l .at) (rw (l .inv .1) (omega arith))),
     )
 

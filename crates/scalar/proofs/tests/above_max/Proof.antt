@@ -24,7 +24,8 @@ loop-holds c = (omega arith, omega arith, sym (any-none _))
 above-at-requires : tie.Need-above-at-requires Inv-loop μ-loop
 above-at-requires c κs =
     let p = c .before .before .before .before .pre in
-    (omega arith, omega arith, none-missing _ _ (p .3) (c .before .loop .i) (c .loop-test .taken), none-missing _ _ (p .4) (c .before .loop .i) (c .loop-test .taken))
+    let i = c .before .loop .i in
+    (omega arith, omega arith, none-missing _ _ (p .3) i (c .loop-test .taken), none-missing _ _ (p .4) i (c .loop-test .taken))
 
 add-bad : tie.Need-add-bad Inv-loop μ-loop
 add-bad c = omega arith
@@ -36,7 +37,9 @@ loop-less : tie.Need-loop-less Inv-loop μ-loop
 loop-less c = omega arith
 
 loop-again : tie.Need-loop-again Inv-loop μ-loop
-loop-again c = let l = c .before .before .loop in (omega arith, omega arith, any-more _ (l .i) (l .bad) (c .above-at .result) (l .inv .2) (c .above-at .ensures .0))
+loop-again c =
+    let l = c .before .before .loop in
+    (omega arith, omega arith, any-more _ (l .i) (l .bad) (c .above-at .result) (l .inv .2) (c .above-at .ensures .0))
 
 returns : tie.Need-returns Inv-loop μ-loop
 unfolding aboveMax
@@ -45,13 +48,4 @@ returns c = let l = c .before .loop in let e : l .i ≡ c .before .before .befor
 pub above-max-spec : {M : Type 1} → statement M
 above-max-spec =
     tie.close
-    (tie.spec
-    Inv-loop
-    μ-loop
-    loop-holds
-    above-at-requires
-    add-bad
-    add-i
-    loop-less
-    loop-again
-    returns)
+    (tie.spec Inv-loop μ-loop loop-holds above-at-requires add-bad add-i loop-less loop-again returns)

@@ -1,0 +1,100 @@
+-- Laws of specs/Estimate and specs/Record: a sum as a float, the formulas case by case, tests for NaN. Assumes nothing.
+use mathlib.Core.Path.{_≡_, refl, sym, ap, ap₂, subst, _∙_}
+use mathlib.Core.Bool.{Bool, true, false, not}
+use Prim.Native.Nat.{ℕ, _+_, _*_, _≤_}
+use native.Mathlib.Omega.{arith}
+use mathlib.Core.List.{List}
+use lib.Dec.{T}
+use lib.ListN.{length, take, drop}
+use lib.Seq.{sets, length-sets}
+use lib.IntN.{pos}
+use lib.Ieee.{Float, nan, inf, fin, binary32, inFloat, fits, isNan, ne, lt, ofBits, toBits}
+use lib.Ieee.Fits.{add-fits, sub-fits}
+use lib.Ieee.Compare.{differs-from-itself}
+use lib.Ieee.Bits.{is-false}
+use borrow.Author.Tests.{le-leb}
+use Rattle.words.specs.Bytes.{bytesOf, floatBytes, wordsOf}
+use Rattle.words.specs.Floats.{notFinite}
+use Rattle.words.specs.Limits.{mostSum}
+use Rattle.words.specs.declared.Metric.{Metric}
+use Rattle.words.specs.declared.Metric.the-variants.{L2, Dot}
+use Rattle.words.proofs.FloatLaws.{same-no-nan}
+use Rattle.words.proofs.WordsLaws.{words-more}
+use Rattle.code.specs.declared.parts.reader.Factors.{Factors}
+use Rattle.code.specs.Code.{codeBit, wordsBit}
+use Rattle.code.proofs.CodeLaws.{code-words-bit}
+use Rattle.sums.specs.Sums.{plainSum, querySum}
+use Rattle.sums.proofs.PlainLaws.{plain-ext}
+use Rattle.estimate.specs.declared.Asked.{Asked}
+use Rattle.estimate.specs.declared.Asked.the-variants.{Rough, LowerBound}
+use Rattle.estimate.specs.declared.Query.{Query}
+use Rattle.estimate.specs.declared.Ready.{Ready}
+use Rattle.estimate.specs.Estimate.{_⊕_, _⊗_, halved, near, far, rough, spread, lowerBound, estimate}
+use Rattle.estimate.specs.Record.{estimateOf, IsReady}
+
+-- a sum is turned to f32 without loss
+pub sum-in-float : (n : ℕ) → n ≤ mostSum → T (inFloat binary32 (pos n))
+unfolding inFloat
+sum-in-float n h = subst T (sym (le-leb n 16777216 (omega arith))) tt
+
+-- an estimate is an f32
+pub estimate-fits : (w : Asked) (m : Metric) (v : Query) (f : Factors) (s q : ℕ) → T (fits binary32 (estimate w m v f s q))
+unfolding estimate lowerBound rough
+estimate-fits Rough L2 v f s q = add-fits binary32 _ _
+estimate-fits Rough Dot v f s q = add-fits binary32 _ _
+estimate-fits LowerBound m v f s q = sub-fits binary32 _ _
+
+-- ---- the rough estimate from its two terms
+
+module _ (m : Metric) (v : Query) (f : Factors) (s q : ℕ) (a b : Float) where
+  module _ (ea : a ≡ halved m (v .b ⊗ f .«factor_ppc»)) (eb : b ≡ halved m ((spread s q ⊗ f .«factor_ip») ⊗ v .k)) where
+    pub rough-l2 : m ≡ L2 → ((f .«dis_u_2» ⊕ v .«dis_v_2») ⊕ a) ⊕ b ≡ rough m v f s q
+    unfolding rough near far
+    rough-l2 e = rw (ea, eb, e) refl
+
+    pub rough-dot : m ≡ Dot → a ⊕ b ≡ rough m v f s q
+    unfolding rough near far
+    rough-dot e = rw (ea, eb, e) refl
+
+-- what the code works out from what is made once is the estimate of the record
+pub ready-estimate : (w : Asked) (m : Metric) (qs : List ℕ) (p : Ready) (f f′ : Factors) (s : ℕ) (b : ℕ → ℕ)
+    → IsReady qs p → f ≡ f′ → s ≡ plainSum qs b → estimate w m (p .v) f s (p .total) ≡ estimateOf w m (p .v) qs f′ b
+unfolding estimateOf
+ready-estimate w m qs p f f′ s b r ef es = rw (ef, es, r .total) refl
+
+-- the sum that is worked out from the word bytes
+pub words-sum : (qs code words : List ℕ) → words ≡ drop 16 code → plainSum qs (wordsBit words) ≡ plainSum qs (codeBit code)
+words-sum qs code words e = rw e (plain-ext qs (wordsBit (drop 16 code)) (codeBit code) (λ d l. sym (code-words-bit code d)))
+
+-- a turn of a loop that writes floats one after the other
+pub floats-more : (out out′ : List ℕ) (k : ℕ) (x : Float) (f : ℕ → Float) → 4 * k + 4 ≤ length out → out′ ≡ sets out (4 * k) (floatBytes x) → x ≡ f k
+    → take (4 * k) out ≡ wordsOf k (λ j. toBits binary32 (f j))
+    → (take (4 * (k + 1)) out′ ≡ wordsOf (k + 1) (λ j. toBits binary32 (f j))) × (length out′ ≡ length out)
+unfolding floatBytes
+floats-more out out′ k x f h e ex w =
+    rw (e, ex) (words-more out k (λ j. toBits binary32 (f j)) h w, length-sets out (4 * k) (bytesOf 4 (toBits binary32 (f k))))
+
+-- ---- tests on a float
+
+-- a float differs from itself where it is a NaN
+pub nan-tells : (x : Float) → ne x x ≡ true → isNan x ≡ true
+unfolding isNan
+nan-tells x e = rw (differs-from-itself x (subst T (sym e) tt)) refl
+
+pub number-tells : (x : Float) → ne x x ≡ false → isNan x ≡ false
+number-tells x e = is-false (isNan x) (same-no-nan x e)
+
+-- a finite float lies between the infinities
+pub below-infinity : (x : Float) → lt (ofBits binary32 0xFF80_0000) x ≡ true → not (lt x (ofBits binary32 0x7F80_0000)) ≡ notFinite x
+unfolding lt ofBits
+below-infinity nan e = refl
+below-infinity (inf true) e = e
+below-infinity (inf false) e = refl
+below-infinity (fin s m k) e = refl
+
+pub not-above : (x : Float) → lt (ofBits binary32 0xFF80_0000) x ≡ false → true ≡ notFinite x
+unfolding lt ofBits
+not-above nan e = refl
+not-above (inf true) e = refl
+not-above (inf false) e = refl
+not-above (fin s m k) e = e

@@ -1,0 +1,77 @@
+-- Module 7, estimates: the paper's formulas. Each operation rounds once, from the left.
+use Prim.Native.Nat.{ℕ}
+use lib.IntN.{pos}
+use lib.Ieee.{Float, nan, binary32, add, sub, mul, ofInt, ofBits}
+use Rattle.words.specs.declared.Metric.{Metric}
+use Rattle.words.specs.declared.Metric.the-variants.{L2, Dot}
+use Rattle.root.specs.Root.{rootOf, valueOr}
+use Rattle.code.specs.declared.parts.reader.Factors.{Factors}
+use Rattle.estimate.specs.declared.Asked.{Asked}
+use Rattle.estimate.specs.declared.Asked.the-variants.{Rough, LowerBound}
+use Rattle.estimate.specs.declared.Query.{Query}
+
+-- the query record of three numbers
+abbrev pub queryOf : Float → Float → Float → Query
+queryOf d b k = record { «dis_v_2» = d; b = b; k = k }
+
+infixl 20 _⊕_
+infixl 20 _⊖_
+infixl 30 _⊗_
+-- one rounding each
+abbrev pub _⊕_ : Float → Float → Float
+x ⊕ y = add binary32 x y
+
+abbrev pub _⊖_ : Float → Float → Float
+x ⊖ y = sub binary32 x y
+
+abbrev pub _⊗_ : Float → Float → Float
+x ⊗ y = mul binary32 x y
+
+-- 2, 0.5 and 1.9, by their bits
+abbrev pub two : Float
+two = ofBits binary32 0x4000_0000
+
+abbrev pub half : Float
+half = ofBits binary32 0x3F00_0000
+
+abbrev pub epsilon : Float
+epsilon = ofBits binary32 0x3FF3_3333
+
+-- 2*S - Q, both turned to f32
+unfoldable pub spread : ℕ → ℕ → Float
+spread s q = (two ⊗ ofInt binary32 (pos s)) ⊖ ofInt binary32 (pos q)
+
+-- a term of L2, and half of it for dot: each half is taken last
+unfoldable pub halved : Metric → Float → Float
+halved L2 x = x
+halved Dot x = half ⊗ x
+
+-- b*factor_ppc
+unfoldable pub near : Metric → Query → Factors → Float
+near m v f = halved m (v .b ⊗ f .«factor_ppc»)
+
+-- ((2*S - Q)*factor_ip)*k
+unfoldable pub far : Metric → Query → Factors → ℕ → ℕ → Float
+far m v f s q = halved m ((spread s q ⊗ f .«factor_ip») ⊗ v .k)
+
+-- L2: ((dis_u_2 + dis_v_2) + b*factor_ppc) + ((2*S - Q)*factor_ip)*k; dot has the two halves alone
+unfoldable pub rough : Metric → Query → Factors → ℕ → ℕ → Float
+rough L2 v f s q = ((f .«dis_u_2» ⊕ v .«dis_v_2») ⊕ near L2 v f) ⊕ far L2 v f s q
+rough Dot v f s q = near Dot v f ⊕ far Dot v f s q
+
+-- root(dis_v_2) by module 3. An accepted query has one
+unfoldable pub rootFloat : Float → Float
+rootFloat x = valueOr nan (rootOf x)
+
+-- factor_err * root(dis_v_2)
+unfoldable pub err : Metric → Query → Factors → Float
+err m v f = halved m (f .«factor_err» ⊗ rootFloat (v .«dis_v_2»))
+
+-- rough - 1.9*err
+unfoldable pub lowerBound : Metric → Query → Factors → ℕ → ℕ → Float
+lowerBound m v f s q = rough m v f s q ⊖ (epsilon ⊗ err m v f)
+
+-- whichever number the call gives
+unfoldable pub estimate : Asked → Metric → Query → Factors → ℕ → ℕ → Float
+estimate Rough m v f s q = rough m v f s q
+estimate LowerBound m v f s q = lowerBound m v f s q

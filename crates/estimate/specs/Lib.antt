@@ -1,0 +1,3 @@
+pub mod Estimate
+pub mod Record
+pub mod Calls

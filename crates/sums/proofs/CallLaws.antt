@@ -1,0 +1,39 @@
+-- The refusals of the sums' calls, a law for each return, and what an accepted call knows. Assumes nothing.
+use Prim.Native.Nat.{ℕ}
+use mathlib.Core.Bool.{Bool, true, false}
+use mathlib.Core.List.{List}
+use mathlib.Core.Path.{_≡_}
+use native.Mathlib.Omega.{arith}
+use lib.ListN.{length}
+use Rattle.words.specs.Limits.{mostDims}
+use Rattle.words.specs.Refusals.{badDims, badLength}
+use Rattle.words.proofs.RefusalLaws.{few-dims}
+use Rattle.sums.specs.Sums.{aboveTop}
+use Rattle.sums.specs.Held.{Query}
+use Rattle.sums.specs.Calls.{sumNumber}
+use Rattle.sums.proofs.QueryLaws.{query}
+
+module _ (dims : ℕ) (qs : List ℕ) (other : Bool) where
+  pub dims-bad : badDims mostDims dims ≡ true → sumNumber dims qs other ≡ 1
+  unfolding sumNumber
+  dims-bad d = simp d
+
+  pub query-bad : badDims mostDims dims ≡ false → badLength qs dims ≡ true → sumNumber dims qs other ≡ 3
+  unfolding sumNumber
+  query-bad d l = simp (d, l)
+
+  pub other-bad : badDims mostDims dims ≡ false → badLength qs dims ≡ false → other ≡ true → sumNumber dims qs other ≡ 3
+  unfolding sumNumber
+  other-bad d l o = simp (d, l, o)
+
+  pub code-bad : badDims mostDims dims ≡ false → badLength qs dims ≡ false → other ≡ false → aboveTop qs ≡ true → sumNumber dims qs other ≡ 5
+  unfolding sumNumber
+  code-bad d l o t = simp (d, l, o, t)
+
+  pub all-good : badDims mostDims dims ≡ false → badLength qs dims ≡ false → other ≡ false → aboveTop qs ≡ false → sumNumber dims qs other ≡ 0
+  unfolding sumNumber
+  all-good d l o t = simp (d, l, o, t)
+
+-- the query of a call that is not refused
+pub judged : (dims : ℕ) (qs : List ℕ) → badDims mostDims dims ≡ false → length qs ≡ dims → aboveTop qs ≡ false → Query qs
+judged dims qs d l t = query qs (omega (arith, few-dims mostDims dims d)) t

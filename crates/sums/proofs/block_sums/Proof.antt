@@ -1,0 +1,93 @@
+-- `sums::block_sums` meets its contract. Assumes nothing.
+use mathlib.Core.Path.{sym, ap, _∙_}
+use Prim.Native.Nat.{ℕ}
+use native.Mathlib.Omega.{arith}
+use lib.ListN.{length-replicate}
+use Rattle.words.proofs.RefusalLaws.{few-dims, first-bad, second-bad, none-bad, sized, unsized, accepts, refuses}
+use Rattle.words.proofs.WordsLaws.{words-ext}
+use Rattle.block.specs.Block.{blockSize}
+use Rattle.sums.specs.Calls.{blockSumsAnswer}
+use Rattle.sums.proofs.CallLaws.{dims-bad, query-bad, other-bad, code-bad, all-good, judged}
+use borrow.Author.Needs.{needs}
+use Rattle.sums.proofs.block_sums.Statement.{statement}
+use Rattle.sums.proofs.block_sums.Tie as tie
+
+bad-dims-requires : tie.Need-bad-dims-requires
+bad-dims-requires c κs = search needs
+
+returns : tie.Need-returns
+unfolding blockSumsAnswer
+returns c = refuses _ 0 _ _ (dims-bad _ _ _ (sym (c .before .bad-dims .ensures) ∙ c .if1 .taken))
+
+returns-2 : tie.Need-returns-2
+unfolding blockSumsAnswer
+returns-2 c = refuses _ 2 _ _ (query-bad _ _ _ (sym (c .before .before .bad-dims .ensures) ∙ c .before .if1 .left) (unsized _ _ (c .if2 .taken)))
+
+size-requires : tie.Need-size-requires
+size-requires c κs = few-dims _ _ (sym (c .before .before .bad-dims .ensures) ∙ c .before .if1 .left)
+
+returns-3 : tie.Need-returns-3
+unfolding blockSumsAnswer
+returns-3 c =
+    refuses _ 2 _ _
+    (other-bad _ _ _ (sym (c .before .before .before .before .bad-dims .ensures) ∙ c .before .before .before .if1 .left) (sized _ _ (c .before .before .if2 .left)) (first-bad _ _ (unsized _ _ (λ e. c .if3 .taken (e ∙ sym (c .before .size .ensures))))))
+
+returns-4 : tie.Need-returns-4
+unfolding blockSumsAnswer
+returns-4 c =
+    refuses _ 2 _ _
+    (other-bad _ _ _ (sym (c .before .before .before .before .before .bad-dims .ensures) ∙ c .before .before .before .before .if1 .left) (sized _ _ (c .before .before .before .if2 .left)) (second-bad _ _ (sized _ _ (c .before .if3 .left ∙ c .before .before .size .ensures)) (unsized _ _ (c .if4 .taken))))
+
+above-top-requires : tie.Need-above-top-requires
+above-top-requires c κs = search needs
+
+returns-5 : tie.Need-returns-5
+unfolding blockSumsAnswer
+returns-5 c =
+    let others = none-bad _ _ (sized _ _ (c .before .before .before .if3 .left ∙ c .before .before .before .before .size .ensures)) (sized _ _ (c .before .before .if4 .left)) in
+    refuses _ 4 _ _ (code-bad _ _ _ (sym (c .before .before .before .before .before .before .before .bad-dims .ensures) ∙ c .before .before .before .before .before .before .if1 .left) (sized _ _ (c .before .before .before .before .before .if2 .left)) others (sym (c .before .above-top .ensures) ∙ c .if5 .taken))
+
+slice-aggregate-block-sums : tie.Need-slice-aggregate-block-sums
+slice-aggregate-block-sums c = search needs
+
+block-sums-requires : tie.Need-block-sums-requires
+block-sums-requires c κs = (
+  judged _ _ (sym (c .before .before .before .before .before .before .before .before .bad-dims .ensures) ∙ c .before .before .before .before .before .before .before .if1 .left) (c .before .before .before .before .before .before .if2 .left) (sym (c .before .before .above-top .ensures) ∙ c .before .if5 .left),
+  c .before .before .before .before .if3 .left ∙ c .before .before .before .before .before .size .ensures ∙ ap blockSize (sym (c .before .before .before .before .before .before .if2 .left)),
+  omega (arith, few-dims _ _ (sym (c .before .before .before .before .before .before .before .before .bad-dims .ensures) ∙ c .before .before .before .before .before .before .before .if1 .left), c .before .before .before .before .before .before .if2 .left, length-replicate {A = ℕ} 69952 0),
+)
+
+slice-aggregate-put-sums : tie.Need-slice-aggregate-put-sums
+slice-aggregate-put-sums c = search needs
+
+put-sums-requires : tie.Need-put-sums-requires
+put-sums-requires c κs = (c .before .before .before .before .before .before .before .if4 .left, c .before .before .before .block-sums .ensures .sums .long)
+
+same-length : tie.Need-same-length
+same-length c = search needs
+
+returns-6 : tie.Need-returns-6
+unfolding blockSumsAnswer
+returns-6 c =
+    let others = none-bad _ _ (sized _ _ (c .before .before .before .before .before .before .before .before .before .before .before .if3 .left ∙ c .before .before .before .before .before .before .before .before .before .before .before .before .size .ensures)) (sized _ _ (c .before .before .before .before .before .before .before .before .before .before .if4 .left)) in
+    accepts _ _ _ _ (all-good _ _ _ (sym (c .before .before .before .before .before .before .before .before .before .before .before .before .before .before .before .bad-dims .ensures) ∙ c .before .before .before .before .before .before .before .before .before .before .before .before .before .before .if1 .left) (sized _ _ (c .before .before .before .before .before .before .before .before .before .before .before .before .before .if2 .left)) others (sym (c .before .before .before .before .before .before .before .before .before .above-top .ensures) ∙ c .before .before .before .before .before .before .before .before .if5 .left))
+    (c .before .before .put-sums .ensures ∙ words-ext 32 _ _ (c .before .before .before .before .before .before .block-sums .ensures .sums .each))
+
+pub block-sums-spec : {M : Type 1} → statement M
+block-sums-spec =
+    tie.close
+    (tie.spec
+    bad-dims-requires
+    returns
+    returns-2
+    size-requires
+    returns-3
+    returns-4
+    above-top-requires
+    returns-5
+    slice-aggregate-block-sums
+    block-sums-requires
+    slice-aggregate-put-sums
+    put-sums-requires
+    same-length
+    returns-6)

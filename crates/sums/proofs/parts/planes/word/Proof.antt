@@ -1,0 +1,83 @@
+-- `sums::parts::planes::word` meets its contract. Assumes nothing.
+use mathlib.Core.Path.{_≡_, sym, ap, ap₂, _∙_, subst}
+use Prim.Native.Nat.{ℕ, _+_, _*_, _-_, _%_, _^_, _≤_, _<_, zero-le}
+use native.Mathlib.Omega.{arith}
+use native.Mathlib.Nat.{lt-of-lt-of-le}
+use lib.ListN.{getD}
+use lib.Pow.{shl-exact, pow-mono}
+use Rattle.words.specs.Digits.{join}
+use Rattle.words.proofs.DigitLaws.{bits-lt, join-none, join-more, join-lt}
+use Rattle.sums.proofs.PlaneLaws.{join-nibbles}
+use borrow.Author.Needs.{needs}
+use Rattle.sums.proofs.parts.planes.word.Statement.{statement}
+use Rattle.sums.proofs.parts.planes.word.Tie as tie
+
+abbrev Inv-loop : tie.InvT-loop
+Inv-loop d r₀ k₀ r k = (k ≤ 16) × (r ≡ join 4 k (λ i. join 1 4 (λ j. getD d (4 * i + j) 0)))
+
+abbrev μ-loop : tie.MeasureT-loop
+μ-loop d r₀ k₀ r k = 16 - k
+
+-- nibble i of the word
+nibble-of : tie.After-nibble Inv-loop μ-loop → ℕ → ℕ
+nibble-of c i = join 1 4 (λ j. getD (c .before .before .before .before .args .d .now) (4 * i + j) 0)
+
+step : (c : tie.After-nibble Inv-loop μ-loop) → c .before .before .loop .r + c .nibble .result * 2 ^ (4 * c .before .before .loop .k) % 2 ^ 64 ≡ join 4 (c .before .before .loop .k + 1) (nibble-of c)
+unfolding nibble-of
+step c =
+    let k = c .before .before .loop .k in
+    ap₂ (λ (x y : ℕ). x + y) (c .before .before .loop .inv .1) (shl-exact 4 (4 * k) 64 (c .nibble .ensures .1) (omega arith) ∙ ap (λ (x : ℕ). x * 2 ^ (4 * k)) (c .nibble .ensures .0))
+    ∙ sym (join-more 4 k (nibble-of c))
+
+fit : (c : tie.After-nibble Inv-loop μ-loop) → join 4 (c .before .before .loop .k + 1) (nibble-of c) < 2 ^ 64
+unfolding nibble-of
+fit c =
+    let k = c .before .before .loop .k in
+    lt-of-lt-of-le (join-lt 4 (k + 1) (nibble-of c) (λ i. bits-lt 4 _ (λ j. c .before .before .before .before .pre .1 (4 * i + j)))) (pow-mono {i = 4 * (k + 1)} {j = 64} (omega arith))
+
+loop-holds : tie.Need-loop-holds Inv-loop μ-loop
+loop-holds c = (zero-le, sym (join-none 4 _))
+
+nibble-requires : tie.Need-nibble-requires Inv-loop μ-loop
+nibble-requires c κs = (omega arith, c .before .before .before .pre .0, c .before .before .before .pre .1)
+
+mul-r : tie.Need-mul-r Inv-loop μ-loop
+mul-r c = search needs
+
+shl-r : tie.Need-shl-r Inv-loop μ-loop
+shl-r c = search needs
+
+add-r : tie.Need-add-r Inv-loop μ-loop
+add-r c = record { fits = subst (λ (x : ℕ). x < 2 ^ 64) (sym (step c)) (fit c) }
+
+add-k : tie.Need-add-k Inv-loop μ-loop
+add-k c = search needs
+
+loop-less : tie.Need-loop-less Inv-loop μ-loop
+loop-less c = omega arith
+
+loop-again : tie.Need-loop-again Inv-loop μ-loop
+unfolding nibble-of
+loop-again c = (omega arith, step c)
+
+returns : tie.Need-returns Inv-loop μ-loop
+returns c =
+    let d = c .before .before .before .args .d .now in
+    let e : c .before .loop .k ≡ 16 = omega arith in
+    c .before .loop .inv .1 ∙ ap (λ (n : ℕ). join 4 n (λ i. join 1 4 (λ j. getD d (4 * i + j) 0))) e ∙ join-nibbles 16 (λ i. getD d i 0)
+
+pub word-spec : {M : Type 1} → statement M
+word-spec =
+    tie.close
+    (tie.spec
+    Inv-loop
+    μ-loop
+    loop-holds
+    nibble-requires
+    mul-r
+    shl-r
+    add-r
+    add-k
+    loop-less
+    loop-again
+    returns)

@@ -1,0 +1,88 @@
+// Module 6, the sums: its public calls. Planes and tables are made here, from the query codes, and never handed in.
+ghost use mathlib.Core.Path.{_≡_};
+ghost use Rattle.sums.specs.Calls.{querySumAnswer, codeSumAnswer, blockSumsAnswer};
+use parts::PLANES;
+use parts::WIDE;
+use parts::lanes::put_sums;
+use parts::query::above_top;
+use parts::query::total;
+use words::ACCEPTED;
+use words::BAD_DIMS;
+use words::BAD_LENGTH;
+use words::BAD_VALUE;
+use words::MOST_DIMS;
+use words::bad_dims;
+use words::put_number;
+
+pub mod parts;
+
+// The sum of all query codes.
+pub fn query_sum(dims: u32, query: &[u8], out: &mut [u8]) -> u32
+    ensures { λ r. ⌜ (r, now (out .exit)) ≡ querySumAnswer dims (now (query .entry)) (now (out .entry)) ⌝ }
+{
+    if bad_dims(dims, MOST_DIMS) {
+        return BAD_DIMS;
+    }
+    if query.len() != dims as usize {
+        return BAD_LENGTH;
+    }
+    if out.len() != 4 {
+        return BAD_LENGTH;
+    }
+    if above_top(query) {
+        return BAD_VALUE;
+    }
+    put_number(out, total(query));
+    ACCEPTED
+}
+
+// The sum of a single code, by planes.
+pub fn code_sum(dims: u32, query: &[u8], code: &[u8], out: &mut [u8]) -> u32
+    ensures { λ r. ⌜ (r, now (out .exit)) ≡ codeSumAnswer dims (now (query .entry)) (now (code .entry)) (now (out .entry)) ⌝ }
+{
+    if bad_dims(dims, MOST_DIMS) {
+        return BAD_DIMS;
+    }
+    let n = dims as usize;
+    if query.len() != n {
+        return BAD_LENGTH;
+    }
+    if code.len() != code::parts::size(n) {
+        return BAD_LENGTH;
+    }
+    if out.len() != 4 {
+        return BAD_LENGTH;
+    }
+    if above_top(query) {
+        return BAD_VALUE;
+    }
+    let mut t = [0u64; PLANES];
+    put_number(out, parts::planes::code_sum(query, code, &mut t));
+    ACCEPTED
+}
+
+// The sums of the 32 lanes of a block, by the fast form.
+pub fn block_sums(dims: u32, query: &[u8], block: &[u8], out: &mut [u8]) -> u32
+    ensures { λ r. ⌜ (r, now (out .exit)) ≡ blockSumsAnswer dims (now (query .entry)) (now (block .entry)) (now (out .entry)) ⌝ }
+{
+    if bad_dims(dims, MOST_DIMS) {
+        return BAD_DIMS;
+    }
+    let n = dims as usize;
+    if query.len() != n {
+        return BAD_LENGTH;
+    }
+    if block.len() != block::parts::size(n) {
+        return BAD_LENGTH;
+    }
+    if out.len() != 128 {
+        return BAD_LENGTH;
+    }
+    if above_top(query) {
+        return BAD_VALUE;
+    }
+    let mut t = [0u8; WIDE];
+    let sums = parts::lanes::block_sums(query, block, &mut t);
+    put_sums(out, &sums);
+    ACCEPTED
+}

@@ -1,0 +1,139 @@
+-- What a walk past its first tests knows, and its answer at each return. Assumes nothing.
+use mathlib.Core.Path.{_≡_, refl, sym, ap, _∙_}
+use mathlib.Core.Bool.{Bool, true, false, not, _&&_, _||_, cond}
+use Prim.Native.Nat.{ℕ, _+_, _-_, _*_, _≤_, _<_}
+use mathlib.Core.List.{List, _++_}
+use native.Mathlib.Omega.{arith}
+use lib.Dec.{eqb, ltb}
+use lib.ListN.{length, drop, replicate}
+use lib.Ieee.{isNan}
+use borrow.Author.Tests.{ltb-false, le-ltb}
+use Rattle.words.specs.Bytes.{bytesOf, wordsOf}
+use Rattle.words.specs.Limits.{mostRecords, mostPlaces}
+use Rattle.words.specs.Lists.{anyBelow}
+use Rattle.words.specs.Metrics.{metricOf}
+use Rattle.words.specs.Refusals.{after, orElse, badLength, badForm}
+use Rattle.words.proofs.ListLaws.{any-none}
+use Rattle.words.proofs.RefusalLaws.{no-row, neither, after-refused, else-first, else-second}
+use Rattle.words.proofs.WordsLaws.{words-zero}
+use Rattle.sums.specs.Held as held
+use Rattle.estimate.specs.declared.Query.{Query}
+use Rattle.estimate.specs.Calls.{queryNumber}
+use Rattle.estimate.proofs.CallLaws.{accepted, length-is}
+use Rattle.walk.proofs.WalkLaws.{range-inside}
+use Rattle.walk.specs.Walk.{layoutOf, recordsSize, badRecords, badLists, outOfRange, rangeNumber, boundOf, boundWords, walkNumber, walkAnswer}
+
+-- ---- the range
+
+pub inside : (n start end places : ℕ) → rangeNumber n start end places ≡ 0
+    → (0 < end - start → start + (end - start) ≤ n) × (end - start ≤ places)
+unfolding rangeNumber
+inside n start end places e =
+    let r6 = no-row (outOfRange n start end) 5 _ e in
+    let r7 = no-row (ltb places (end - start)) 6 0 (r6 .1) in
+    (range-inside n start end (r6 .0), ltb-false _ _ (r7 .0))
+
+empty-inside : (n start end places : ℕ) → end ≤ start → rangeNumber n start end places ≡ 0
+unfolding rangeNumber outOfRange
+empty-inside n start end places h =
+    let z : end - start ≤ places = omega arith in
+    rw (le-ltb start end h, le-ltb places (end - start) z) refl
+
+module _ (metric layout dims : ℕ) (v : Query) (qs rs : List ℕ) (n start end : ℕ) (ids bounds marks count : List ℕ) where
+  abbrev pub otherLengths : Bool
+  otherLengths = ltb mostRecords n || badRecords layout dims n rs || badLists ids bounds marks count
+
+  -- the refusals 1 to 5
+  unfoldable pub firstNumber : ℕ
+  firstNumber = queryNumber dims otherLengths v qs (badForm metric || badForm layout)
+
+  -- as the code's tests give them
+  pub judged : (r : ℕ) (lists : Bool)
+      → lists ≡ (ltb mostPlaces (length marks) || not (eqb (length ids) (4 * length marks)) || not (eqb (length bounds) (4 * length marks)) || not (eqb (length count) 4))
+      → r ≡ queryNumber dims (ltb mostRecords n || (not (badForm layout) && not (eqb (length rs) (recordsSize (layoutOf layout) dims n))) || lists) v qs
+      (badForm metric || badForm layout) → r ≡ firstNumber
+  unfolding firstNumber badRecords badLists badLength
+  judged r lists el e = e ∙ rw el refl
+
+  -- what is known where there is none
+  pub record Known : Type 0 where
+    pub codes : held.Query qs
+    pub few : n ≤ mostRecords
+    pub sized : length rs ≡ recordsSize (layoutOf layout) (length qs) n
+    pub places : length marks ≤ mostPlaces
+    pub ids-are : length ids ≡ 4 * length marks
+    pub bounds-are : length bounds ≡ 4 * length marks
+    pub count-is : length count ≡ 4
+
+  pub known : firstNumber ≡ 0 → Known
+  unfolding firstNumber badLists badRecords
+  known e =
+      let a = accepted dims otherLengths v qs (badForm metric || badForm layout) e in
+      let l = neither (ltb mostRecords n || badRecords layout dims n rs) (badLists ids bounds marks count) (a .others) in
+      let r = neither (ltb mostRecords n) (badRecords layout dims n rs) (l .0) in
+      let p3 = neither (ltb mostPlaces (length marks) || badLength ids (4 * length marks) || badLength bounds (4 * length marks)) (badLength count 4) (l .1) in
+      let p2 = neither (ltb mostPlaces (length marks) || badLength ids (4 * length marks)) (badLength bounds (4 * length marks)) (p3 .0) in
+      let p1 = neither (ltb mostPlaces (length marks)) (badLength ids (4 * length marks)) (p2 .0) in
+      let f = neither (badForm metric) (badForm layout) (a .formed) in
+      let s = ap (λ (x : Bool). not x && badLength rs (recordsSize (layoutOf layout) dims n)) (sym (f .1)) ∙ r .1 in
+      record {
+        codes = a .codes;
+        few = ltb-false _ _ (r .0);
+        sized = length-is rs _ s ∙ ap (λ (x : ℕ). recordsSize (layoutOf layout) x n) (sym (a .size));
+        places = ltb-false _ _ (p1 .0);
+        ids-are = length-is ids _ (p1 .1);
+        bounds-are = length-is bounds _ (p2 .1);
+        count-is = length-is count 4 (p3 .1);
+      }
+
+  -- ---- the number
+
+  abbrev pub theNumber : ℕ
+  theNumber = walkNumber metric layout dims v qs rs n start end ids bounds marks count
+
+  -- a wanted bound is a NaN
+  unfoldable pub someNan : Bool
+  someNan = anyBelow (end - start) (λ j. isNan (boundOf (layoutOf layout) (metricOf metric) v qs rs (start + j)))
+
+  pub first-number : (r : ℕ) → r ≡ firstNumber → (r ≡ 0 → ⊥) → r ≡ theNumber
+  unfolding walkNumber firstNumber
+  first-number r e h = e ∙ sym (else-first firstNumber _ (λ z. h (e ∙ z)))
+
+  module _ (ok : firstNumber ≡ 0) where
+    pub range-number : (r : ℕ) → r ≡ rangeNumber n start end (length marks) → (r ≡ 0 → ⊥) → r ≡ theNumber
+    unfolding walkNumber firstNumber
+    range-number r e h = e ∙ sym (else-second firstNumber _ ok ∙ else-first (rangeNumber n start end (length marks)) _ (λ z. h (e ∙ z)))
+
+    module _ (inside : rangeNumber n start end (length marks) ≡ 0) where
+      pub nan-number : someNan ≡ true → 8 ≡ theNumber
+      unfolding walkNumber firstNumber someNan
+      nan-number h = sym (else-second firstNumber _ ok ∙ else-second (rangeNumber n start end (length marks)) _ inside ∙ rw h refl)
+
+      pub zero-number : someNan ≡ false → 0 ≡ theNumber
+      unfolding walkNumber firstNumber someNan
+      zero-number h = sym (else-second firstNumber _ ok ∙ else-second (rangeNumber n start end (length marks)) _ inside ∙ rw h refl)
+
+  -- ---- the answer
+
+  pub walk-refused : (r : ℕ) → r ≡ theNumber → (r ≡ 0 → ⊥)
+      → (r, ids, bounds, marks, count) ≡ walkAnswer metric layout dims v qs rs n start end ids bounds marks count
+  unfolding walkAnswer
+  walk-refused r e h =
+      rw (← e, after-refused r ids _ h, after-refused r bounds _ h, after-refused r marks _ h, after-refused r count _ h) refl
+
+  pub walk-written : (c : ℕ) (bs ids′ bounds′ marks′ count′ : List ℕ) → c ≡ end - start → 0 ≡ theNumber
+      → bs ≡ boundWords (layoutOf layout) (metricOf metric) v qs rs start (end - start)
+      → ids′ ≡ wordsOf c (λ j. start + j) ++ drop (4 * c) ids → bounds′ ≡ bs ++ drop (4 * c) bounds → marks′ ≡ replicate c 0 ++ drop c marks → count′ ≡ bytesOf 4 c
+      → (0, ids′, bounds′, marks′, count′) ≡ walkAnswer metric layout dims v qs rs n start end ids bounds marks count
+  unfolding walkAnswer after
+  walk-written c bs ids′ bounds′ marks′ count′ ec z eb ei eb′ em ek = rw (ei, eb′, em, ek, eb, ec, ← z) refl
+
+  -- an empty range, wherever it lies: count 0, and the lists stay
+  pub empty-range : end ≤ start → firstNumber ≡ 0
+      → walkAnswer metric layout dims v qs rs n start end ids bounds marks count ≡ (0, ids, bounds, marks, bytesOf 4 0)
+  unfolding boundWords someNan
+  empty-range h ok =
+      let z : end - start ≡ 0 = omega arith in
+      let a : someNan ≡ false = ap (λ (c : ℕ). anyBelow c (λ j. isNan (boundOf (layoutOf layout) (metricOf metric) v qs rs (start + j)))) z ∙ any-none _ in
+      sym (walk-written 0 _ ids bounds marks (bytesOf 4 0) (sym z) (zero-number ok (empty-inside n start end (length marks) h) a) refl
+      (ap (λ (l : List ℕ). l ++ ids) (sym (words-zero _))) (rw z (ap (λ (l : List ℕ). l ++ bounds) (sym (words-zero _)))) refl refl)

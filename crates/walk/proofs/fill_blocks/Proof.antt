@@ -1,0 +1,98 @@
+-- `walk::fill_blocks` meets its contract. Assumes nothing.
+use mathlib.Core.Path.{_≡_, refl, sym, ap, _∙_}
+use mathlib.Core.List.{List}
+use Prim.Native.Nat.{ℕ, _+_, _-_, _*_, _≤_, _<_, zero-le}
+use native.Mathlib.Omega.{arith}
+use lib.ListN.{length, take}
+use lib.Seq.{sets}
+use lib.Ieee.{toBits, binary32}
+use Rattle.words.specs.Bytes.{wordsOf}
+use Rattle.words.proofs.WordsLaws.{words-none}
+use Rattle.estimate.specs.declared.Asked.the-variants.{LowerBound}
+use Rattle.estimate.specs.Record.{laneEstimate, laneWords}
+use Rattle.walk.specs.declared.Layout.the-variants.{Blocks}
+use Rattle.walk.specs.Walk.{recordOf, boundOf, boundWords}
+use Rattle.walk.proofs.WalkLaws.{blocks-more, lane-bound}
+use borrow.Author.Needs.{needs}
+use Rattle.walk.proofs.fill_blocks.Statement.{statement}
+use Rattle.walk.proofs.fill_blocks.Tie as tie
+
+abbrev Inv-loop : tie.InvT-loop
+Inv-loop m p q records blocks first count buf₀ table size b₀ buf b =
+    (b ≤ count) × (length buf ≡ length buf₀)
+    × (take (128 * b) buf ≡ wordsOf (32 * b) (λ j. toBits binary32 (boundOf Blocks m (p .v) q records (32 * first + j))))
+
+abbrev μ-loop : tie.MeasureT-loop
+μ-loop m p q records blocks first count buf₀ table size b₀ buf b = count - b
+
+slice-aggregate-fill-wide : tie.Need-slice-aggregate-fill-wide Inv-loop μ-loop
+slice-aggregate-fill-wide c = search needs
+
+fill-wide-requires : tie.Need-fill-wide-requires Inv-loop μ-loop
+fill-wide-requires c κs = search needs
+
+size-requires : tie.Need-size-requires Inv-loop μ-loop
+size-requires c κs = c .before .before .before .before .before .before .pre .0 .few
+
+loop-holds : tie.Need-loop-holds Inv-loop μ-loop
+loop-holds c = (zero-le, refl, words-none (c .before .before .before .before .before .before .before .args .buf .now) _)
+
+add-record-at : tie.Need-add-record-at Inv-loop μ-loop
+add-record-at c = omega (arith, c .before .before .before .before .before .before .before .before .before .pre .2, c .before .before .before .before .before .before .before .before .before .good)
+
+record-at-requires : tie.Need-record-at-requires Inv-loop μ-loop
+record-at-requires c κs = (omega (arith, c .before .before .before .before .before .before .before .before .before .pre .2), c .before .before .before .before .before .before .before .before .before .pre .3 ∙ ap (λ (x : ℕ). c .before .before .before .before .before .before .before .before .before .args .blocks * x) (sym (c .before .before .size .ensures)))
+
+slice-aggregate-put-block : tie.Need-slice-aggregate-put-block Inv-loop μ-loop
+slice-aggregate-put-block c = search needs
+
+put-block-requires : tie.Need-put-block-requires Inv-loop μ-loop
+put-block-requires c κs =
+    let a = c .before .before .before .before .before .before .before .before .before .before .before .before .pre in
+    (a .1, record { query = a .0; wide = c .before .before .before .before .before .before .before .fill-wide .ensures; sized = c .before .before .record-at .ensures .1 ∙ c .before .before .before .before .before .size .ensures }, omega (arith, a .4))
+
+add-b : tie.Need-add-b Inv-loop μ-loop
+add-b c = omega arith
+
+loop-less : tie.Need-loop-less Inv-loop μ-loop
+loop-less c = omega arith
+
+loop-again : tie.Need-loop-again Inv-loop μ-loop
+unfolding laneWords
+loop-again c =
+    let l = c .before .before .before .before .before .before .before .loop in
+    let a = c .before .before .before .before .before .before .before .before .before .before .before .before .before .before .before .args in
+    let lane : List ℕ → ℕ → ℕ = λ x k. toBits binary32 (laneEstimate LowerBound (a .m) (a .p .v) (a .q .now) x k) in
+    let block = c .before .before .before .before .before .record-at .ensures .0 ∙ ap (λ (x : ℕ). recordOf x (a .records .now) (a .first + l .b)) (c .before .before .before .before .before .before .before .before .size .ensures) in
+    let e = c .before .before .put-block .ensures ∙ ap (λ (x : List ℕ). sets (l .buf) (128 * l .b) (wordsOf 32 (lane x))) block in
+    let same = lane-bound (a .m) (a .p .v) (a .q .now) (a .records .now) (a .first) (l .b) in
+    let room : 128 * l .b + 128 ≤ length (l .buf) = omega (arith, c .before .before .before .before .before .before .before .before .before .before .before .before .before .before .before .pre .4) in
+    let next = blocks-more (l .buf) _ (l .b) _ _ room e (λ k h. ap (toBits binary32) (same k h)) (l .inv .2) in
+    (omega arith, next .1 ∙ l .inv .1, next .0)
+
+same-length : tie.Need-same-length Inv-loop μ-loop
+same-length c = c .before .loop .inv .1
+
+returns : tie.Need-returns Inv-loop μ-loop
+unfolding boundWords
+returns c = let e : c .before .loop .b ≡ c .before .before .before .before .before .before .before .before .before .args .count = omega arith in rw (← e) (c .before .loop .inv .2)
+
+pub fill-blocks-spec : {M : Type 1} → statement M
+fill-blocks-spec =
+    tie.close
+    (tie.spec
+    Inv-loop
+    μ-loop
+    slice-aggregate-fill-wide
+    fill-wide-requires
+    size-requires
+    loop-holds
+    add-record-at
+    record-at-requires
+    slice-aggregate-put-block
+    put-block-requires
+    add-b
+    loop-less
+    loop-again
+    same-length
+    returns)

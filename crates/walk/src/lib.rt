@@ -1,0 +1,421 @@
+// Module 8: the range walk. The Rust's `flat_rerank_continue`.
+ghost use mathlib.Core.Path.{_≡_};
+ghost use mathlib.Core.Bool.{cond, not, _&&_, _||_};
+ghost use mathlib.Core.List.{_++_};
+ghost use Prim.Native.Nat.{ℕ, _+_, _-_, _*_, _/_, _<_, _≤_};
+ghost use lib.Dec.{eqb, ltb};
+ghost use lib.Seq.{sets};
+ghost use lib.ListN.{length, take, drop, replicate};
+ghost use lib.Ieee.{isNan, toBits, binary32};
+ghost use Rattle.words.specs.Bytes.{f32At, bytesOf, wordsOf};
+ghost use Rattle.words.specs.Limits.{mostDims, mostRecords, mostPlaces};
+ghost use Rattle.words.specs.Lists.{anyBelow};
+ghost use Rattle.words.specs.Refusals.{badForm};
+ghost use Rattle.code.specs.Code.{codeSize};
+ghost use Rattle.block.specs.Block.{blockSize};
+ghost use Rattle.sums.specs.Held as held;
+ghost use Rattle.sums.specs.Held.{Query as Codes};
+ghost use Rattle.estimate.specs.Calls.{queryNumber};
+ghost use Rattle.estimate.specs.Record.{laneWords, IsReady};
+ghost use Rattle.estimate.specs.declared.Asked.the-variants.{LowerBound};
+ghost use Rattle.walk.specs.Walk.{layoutOf, recordOf, blocksOf, recordsSize, boundOf, badRecords, badLists, outOfRange, rangeNumber, boundWords, walkAnswer};
+ghost use Rattle.walk.specs.Parts.{Range, roomOf};
+use estimate::Asked;
+use estimate::Query;
+use estimate::Ready;
+use estimate::parts::code_estimate;
+use estimate::parts::put_lanes;
+use estimate::parts::query_refusal;
+use estimate::parts::ready;
+use sums::parts::PLANES;
+use sums::parts::WIDE;
+use sums::parts::lanes::fill_wide;
+use sums::parts::planes::binarize;
+use words::ACCEPTED;
+use words::BAD_DIMS;
+use words::MOST_DIMS;
+use words::MOST_PLACES;
+use words::MOST_RECORDS;
+use words::Metric;
+use words::NO_ESTIMATE;
+use words::NO_ROOM;
+use words::OUT_OF_RANGE;
+use words::bad_dims;
+use words::bad_form;
+use words::metric_of;
+use words::put_bytes;
+use words::put_f32;
+use words::put_number;
+use words::put_u32;
+use words::u32_at;
+
+pub enum Layout {
+    Single,
+    Blocks,
+}
+
+// Room for the bounds of every lane of the blocks that the most ids reach into.
+const ROOM: usize = 128 * ((MOST_PLACES + 62) / 32);
+
+fn layout_of(n: u32) -> Layout
+    ensures { λ r. ⌜ r ≡ layoutOf n ⌝ }
+{
+    if n == 1 {
+        Layout::Single
+    } else {
+        Layout::Blocks
+    }
+}
+
+// ---- records
+
+fn part(s: &[u8], at: usize, size: usize) -> &[u8]
+    requires { ⌜ at + size ≤ length (now s) ⌝ }
+    ensures { λ r. ⌜ (now r ≡ take size (drop at (now (s .entry)))) × (length (now r) ≡ size) ⌝ }
+{
+    let end = at + size;
+    &s[at..end]
+}
+
+// Record i of n records of size bytes each.
+fn record_at(records: &[u8], i: usize, n: usize, size: usize) -> &[u8]
+    requires { ⌜ (i < n) × (length (now records) ≡ n * size) ⌝ }
+    ensures { λ r. ⌜ (now r ≡ recordOf size (now (records .entry)) i) × (length (now r) ≡ size) ⌝ }
+{
+    part(records, size * i, size)
+}
+
+// ---- bounds
+
+// The bounds of c ids from start on, over single codes.
+fn fill_codes(
+    m: Metric,
+    p: Ready,
+    q: &[u8],
+    records: &[u8],
+    n: usize,
+    start: usize,
+    c: usize,
+    buf: &mut [u8],
+)
+    requires { ⌜ Codes (now q) × IsReady (now q) p × Range Layout.Single (now q) (now records) n start c × (4 * c ≤ length (now buf)) ⌝ }
+    ensures { λ _. ⌜ take (4 * c) (now (buf .exit)) ≡ boundWords Layout.Single m (p .v) (now (q .entry)) (now (records .entry)) start c ⌝ }
+{
+    let mut planes = [0u64; PLANES];
+    binarize(q, &mut planes);
+    let size = code::parts::size(q.len());
+    let mut i = 0usize;
+    while i < c {
+        let code = record_at(records, start + i, n, size);
+        let bound = code_estimate(Asked::LowerBound, m, p, q, &planes, code);
+        put_f32(buf, 4 * i, bound);
+        i += 1;
+    }
+}
+
+// The bounds of the 32 lanes of block b, as the b-th 128 bytes of buf.
+fn put_block(m: Metric, p: Ready, q: &[u8], table: &[u8], block: &[u8], buf: &mut [u8], b: usize)
+    requires { ⌜ IsReady (now q) p × held.Ready (now q) (now table) (now block) × (128 * b + 128 ≤ length (now buf)) ⌝ }
+    ensures { λ _. ⌜ now (buf .exit) ≡ sets (now (buf .entry)) (128 * b) (laneWords LowerBound m (p .v) (now (q .entry)) (now (block .entry))) ⌝ }
+{
+    let at = 128 * b;
+    let end = at + 128;
+    put_lanes(Asked::LowerBound, m, p, q, table, block, &mut buf[at..end]);
+}
+
+// The bounds of all lanes of count blocks from block first on: each block is summed once.
+fn fill_blocks(
+    m: Metric,
+    p: Ready,
+    q: &[u8],
+    records: &[u8],
+    blocks: usize,
+    first: usize,
+    count: usize,
+    buf: &mut [u8],
+)
+    requires { ⌜ Codes (now q) × IsReady (now q) p × (first + count ≤ blocks) × (length (now records) ≡ blocks * blockSize (length (now q))) × (128 * count ≤ length (now buf)) ⌝ }
+    ensures { λ _. ⌜ take (128 * count) (now (buf .exit)) ≡ boundWords Layout.Blocks m (p .v) (now (q .entry)) (now (records .entry)) (32 * first) (32 * count) ⌝ }
+{
+    let mut table = [0u8; WIDE];
+    fill_wide(q, &mut table);
+    let size = block::parts::size(q.len());
+    let mut b = 0usize;
+    while b < count {
+        let block = record_at(records, first + b, blocks, size);
+        put_block(m, p, q, &table, block, buf, b);
+        b += 1;
+    }
+}
+
+// The bounds of c ids from start on, and the place in buf of the first of them. What is made of the query is made once, and
+// not for an empty range.
+fn fill_bounds(
+    layout: Layout,
+    m: Metric,
+    v: Query,
+    q: &[u8],
+    records: &[u8],
+    n: usize,
+    start: usize,
+    c: usize,
+    buf: &mut [u8],
+) -> usize
+    requires { ⌜ Codes (now q) × Range layout (now q) (now records) n start c × (length (now buf) ≡ roomOf mostPlaces) ⌝ }
+    ensures { λ r. ⌜ (take (4 * c) (drop (4 * r) (now (buf .exit))) ≡ boundWords layout m v (now (q .entry)) (now (records .entry)) start c) × (r < 32) ⌝ }
+{
+    if c == 0 {
+        return 0;
+    }
+    let p = ready(v, q);
+    match layout {
+        Layout::Single => {
+            fill_codes(m, p, q, records, n, start, c, buf);
+            0
+        }
+        Layout::Blocks => {
+            let lane = start % 32;
+            fill_blocks(m, p, q, records, (n + 31) / 32, start / 32, (lane + c + 31) / 32, buf);
+            lane
+        }
+    }
+}
+
+// 1 where the float of place i is a NaN, else 0.
+fn nan_at(s: &[u8], i: usize) -> u32
+    requires { ⌜ 4 * i + 4 ≤ length (now s) ⌝ }
+    ensures { λ r. ⌜ (r ≡ cond (isNan (f32At (now (s .entry)) i)) 1 0) × (r ≤ 1) ⌝ }
+{
+    let n = u32_at(s, 4 * i);
+    let sign = n / 0x8000_0000;
+    if 0x7F80_0000 < n - sign * 0x8000_0000 {
+        1
+    } else {
+        0
+    }
+}
+
+// Whether one of the first c floats is a NaN. The loop counts and doesn't leave early: so it goes by vectors.
+fn any_nan(s: &[u8], c: usize) -> bool
+    requires { ⌜ (4 * c ≤ length (now s)) × (c ≤ mostPlaces) ⌝ }
+    ensures { λ r. ⌜ r ≡ anyBelow c (λ j. isNan (f32At (now (s .entry)) j)) ⌝ }
+{
+    let mut bad = 0u32;
+    let mut i = 0usize;
+    while i < c {
+        bad += nan_at(s, i);
+        i += 1;
+    }
+    0 < bad
+}
+
+// ---- the lists
+
+// The ids from start on in the first c places.
+fn put_ids(ids: &mut [u8], start: u32, c: usize)
+    requires { ⌜ (4 * c ≤ length (now ids)) × (c ≤ mostPlaces) × (start + c ≤ 4294967296) ⌝ }
+    ensures { λ _. ⌜ now (ids .exit) ≡ wordsOf c (λ j. start + j) ++ drop (4 * c) (now (ids .entry)) ⌝ }
+{
+    let mut i = 0usize;
+    while i < c {
+        put_u32(ids, 4 * i, start + (i as u32));
+        i += 1;
+    }
+}
+
+// Mark 0 in the first c places.
+fn put_marks(marks: &mut [u8], c: usize)
+    requires { ⌜ c ≤ length (now marks) ⌝ }
+    ensures { λ _. ⌜ now (marks .exit) ≡ replicate c 0 ++ drop c (now (marks .entry)) ⌝ }
+{
+    let mut i = 0usize;
+    while i < c {
+        marks[i] = 0;
+        i += 1;
+    }
+}
+
+// The three lists and the count, from the c bounds bs.
+fn put_lists(
+    start: u32,
+    c: usize,
+    bs: &[u8],
+    ids: &mut [u8],
+    bounds: &mut [u8],
+    marks: &mut [u8],
+    count: &mut [u8],
+)
+    requires { ⌜ (start + c ≤ 4294967296) × (c ≤ mostPlaces) × (length (now bs) ≡ 4 * c) × (4 * c ≤ length (now ids)) × (4 * c ≤ length (now bounds)) ⌝ }
+    requires { ⌜ (c ≤ length (now marks)) × (length (now count) ≡ 4) ⌝ }
+    ensures ids { λ _. ⌜ now (ids .exit) ≡ wordsOf c (λ j. start + j) ++ drop (4 * c) (now (ids .entry)) ⌝ }
+    ensures bounds { λ _. ⌜ now (bounds .exit) ≡ now (bs .entry) ++ drop (4 * c) (now (bounds .entry)) ⌝ }
+    ensures marks { λ _. ⌜ now (marks .exit) ≡ replicate c 0 ++ drop c (now (marks .entry)) ⌝ }
+    ensures count { λ _. ⌜ now (count .exit) ≡ bytesOf 4 c ⌝ }
+{
+    put_ids(ids, start, c);
+    put_bytes(bounds, 0, bs);
+    put_marks(marks, c);
+    put_number(count, c as u32);
+}
+
+// ---- refusals
+
+fn times(n: usize, size: usize) -> usize
+    requires { ⌜ (n ≤ 4294967295) × (size ≤ blockSize mostDims) ⌝ }
+    ensures { λ r. ⌜ r ≡ n * size ⌝ }
+{
+    n * size
+}
+
+fn bad_records(layout: u32, dims: u32, n: u32, records: usize) -> bool
+    requires { ⌜ dims ≤ mostDims ⌝ }
+    ensures { λ r. ⌜ r ≡ (not (badForm layout) && not (eqb records (recordsSize (layoutOf layout) dims n))) ⌝ }
+{
+    if layout == 1 {
+        return records != times(n as usize, code::parts::size(dims as usize));
+    }
+    if layout == 2 {
+        return records != times((n as usize + 31) / 32, block::parts::size(dims as usize));
+    }
+    false
+}
+
+fn bad_lists(ids: usize, bounds: usize, marks: usize, count: usize) -> bool
+    ensures { λ r. ⌜ r ≡ (ltb mostPlaces marks || not (eqb ids (4 * marks)) || not (eqb bounds (4 * marks)) || not (eqb count 4)) ⌝ }
+{
+    if MOST_PLACES < marks {
+        return true;
+    }
+    if ids != 4 * marks {
+        return true;
+    }
+    if bounds != 4 * marks {
+        return true;
+    }
+    count != 4
+}
+
+fn bad_lengths(layout: u32, dims: u32, n: u32, records: usize, lists: bool) -> bool
+    requires { ⌜ dims ≤ mostDims ⌝ }
+    ensures { λ r. ⌜ r ≡ (ltb mostRecords n || (not (badForm layout) && not (eqb records (recordsSize (layoutOf layout) dims n))) || lists) ⌝ }
+{
+    if MOST_RECORDS < n {
+        return true;
+    }
+    if bad_records(layout, dims, n, records) {
+        return true;
+    }
+    lists
+}
+
+fn bad_forms(metric: u32, layout: u32) -> bool
+    ensures { λ r. ⌜ r ≡ (badForm metric || badForm layout) ⌝ }
+{
+    if bad_form(metric) {
+        return true;
+    }
+    bad_form(layout)
+}
+
+// The refusals 1 to 5; 0 where there is none. lists is that the buffers which are written are not of their lengths.
+fn judge(
+    metric: u32,
+    layout: u32,
+    dims: u32,
+    v: Query,
+    q: &[u8],
+    records: usize,
+    n: u32,
+    lists: bool,
+) -> u32
+    ensures { λ r. ⌜ r ≡ queryNumber dims (ltb mostRecords n || (not (badForm layout) && not (eqb records (recordsSize (layoutOf layout) dims n))) || lists) v (now (q .entry)) (badForm metric || badForm layout) ⌝ }
+{
+    if bad_dims(dims, MOST_DIMS) {
+        return BAD_DIMS;
+    }
+    let other = bad_lengths(layout, dims, n, records, lists);
+    query_refusal(dims, other, v, q, bad_forms(metric, layout))
+}
+
+fn out_of_range(n: u32, start: u32, end: u32) -> bool
+    ensures { λ r. ⌜ r ≡ outOfRange n start end ⌝ }
+{
+    if start < end {
+        return n < end;
+    }
+    false
+}
+
+// How many ids a range has.
+fn range_len(start: u32, end: u32) -> usize
+    ensures { λ r. ⌜ r ≡ end - start ⌝ }
+{
+    if start < end {
+        (end - start) as usize
+    } else {
+        0
+    }
+}
+
+// The refusals 6 and 7; 0 where there is none.
+fn range_refusal(n: u32, start: u32, end: u32, places: usize) -> u32
+    ensures { λ r. ⌜ r ≡ rangeNumber n start end places ⌝ }
+{
+    if out_of_range(n, start, end) {
+        return OUT_OF_RANGE;
+    }
+    if places < range_len(start, end) {
+        return NO_ROOM;
+    }
+    0
+}
+
+// The ids of a range with their lower bounds, marks 0, and the count. The bounds go to a buffer of the walk's own, so that
+// nothing is written before all of them are known to be numbers.
+pub fn walk(
+    metric: u32,
+    layout: u32,
+    dims: u32,
+    v: Query,
+    q: &[u8],
+    records: &[u8],
+    n: u32,
+    start: u32,
+    end: u32,
+    ids: &mut [u8],
+    bounds: &mut [u8],
+    marks: &mut [u8],
+    count: &mut [u8],
+) -> u32
+    ensures { λ r. ⌜ (r, now (ids .exit), now (bounds .exit), now (marks .exit), now (count .exit))
+        ≡ walkAnswer metric layout dims v (now (q .entry)) (now (records .entry)) n start end (now (ids .entry)) (now (bounds .entry)) (now (marks .entry)) (now (count .entry)) ⌝ }
+{
+    let lists = bad_lists(ids.len(), bounds.len(), marks.len(), count.len());
+    let r = judge(metric, layout, dims, v, q, records.len(), n, lists);
+    if r != 0 {
+        return r;
+    }
+    let r = range_refusal(n, start, end, marks.len());
+    if r != 0 {
+        return r;
+    }
+    let c = range_len(start, end);
+    let mut buf = [0u8; ROOM];
+    let at = fill_bounds(
+        layout_of(layout),
+        metric_of(metric),
+        v,
+        q,
+        records,
+        n as usize,
+        start as usize,
+        c,
+        &mut buf,
+    );
+    let bs = part(&buf, 4 * at, 4 * c);
+    if any_nan(bs, c) {
+        return NO_ESTIMATE;
+    }
+    put_lists(start, c, bs, ids, bounds, marks, count);
+    ACCEPTED
+}

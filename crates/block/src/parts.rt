@@ -25,7 +25,7 @@ fn cleared(x: u8, left: usize) -> u8
     x & ((1u8 << left) - 1)
 }
 
-// The half of a byte that belongs to group g.
+// The half of a byte that has group g of a code, or lane 16 g + j of a group: the low one where g is even.
 fn half(x: u8, g: usize) -> u8
     ensures { λ r. ⌜ (r ≡ x / 16 ^ (g % 2) % 16) × (r < 16) ⌝ }
 {
@@ -37,7 +37,7 @@ fn start(dims: usize, k: usize) -> usize
     requires { ⌜ (dims ≤ mostDims) × (k < 32) ⌝ }
     ensures { λ r. ⌜ (r ≡ codeSize dims * k) × (r + codeSize dims ≤ 32 * codeSize dims) × (r ≤ 32 * codeSize mostDims) ⌝ }
 {
-    (16 + 8 * ((dims + 63) / 64)) * k
+    code::parts::size(dims) * k
 }
 
 // The nibble that a block has of code k in group g.
@@ -84,7 +84,7 @@ fn put_factors(codes: &[u8], dims: usize, block: &mut [u8])
     }
 }
 
-// The block of 32 codes laid end to end.
+// The block of 32 codes laid end to end: the Rust's `fscan_encode`, and `pack` of b4.rs in our lane order.
 pub fn pack(codes: &[u8], dims: usize, block: &mut [u8])
     requires { ⌜ (dims ≤ mostDims) × (length (now codes) ≡ 32 * codeSize dims) × (length (now block) ≡ blockSize dims) ⌝ }
     ensures { λ _. ⌜ now (block .exit) ≡ packed dims (now (codes .entry)) ⌝ }

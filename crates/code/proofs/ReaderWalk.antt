@@ -1,4 +1,5 @@
--- What the walks of `factors_of` and `words_of` share: the call of `parse_code`, of which all that they know is its contract. Assumes nothing.
+-- What the walks of the reader share: a slice that is lent to a call, and the call of `parse_code`, of which all that they know is its contract.
+-- Assumes nothing.
 use mathlib.Core.Path.{_≡_}
 use Prim.Native.Nat.{ℕ, _≤_}
 use mathlib.Core.List.{List, [], _∷_}
@@ -20,6 +21,7 @@ use denote.Builtin.{u8}
 use denote.Ref.{RefT, NamedLft, now}
 use denote.Signature.{namedLft}
 use denote.Slice.{sliceVal, ShrSlice, shr-slice-copy}
+use denote.Steps.{nothing}
 use denote.Struct.Declared.{Declared}
 use denote.Struct.Laws as LL
 use denote.Triple.Statement.{Contract}
@@ -56,6 +58,25 @@ Own κ s = ShrSlice (named 0) κ u8 .own s (val s ∷ [])
 abbrev pub Said : RefT (List ℕ) → Code → Type 0
 Said s r = (keptFactors r ≡ factorsAt (now s)) × (now (r .words) ≡ wordsAt (now s))
 
+module _ {M : Type 1} (𝓤 : URA M) (H : Heap 𝓤) (A : Atoms 𝓤) (W : Given 𝓤 H A) (κ : Lft) (q : Share) (s : RefT (List ℕ)) where
+  -- the slice s and the token, as a call of one slice asks for them
+  abbrev pub Passed : SProp 𝓤
+  Passed = ⋆ 𝓤 H A ((‵ (flft κ q) ⊛ ‵ ftrue) ∷ ‵ (owns (ShrSlice (named 0) κ u8 ∷ []) (s, tt) (val s ∷ [], tt)) ∷ [])
+
+  -- a `&[u8]` is Copy: whoever calls with s keeps what s owns, at the first call and at the next
+  pub lend : (Pre : SProp 𝓤) → ent 𝓤 Passed Pre → ent 𝓤 Passed (sep 𝓤 Pre (sem 𝓤 H A (Own κ s)))
+  lend Pre asks =
+      qed W ((‵ (flft κ q) ⊛ ‵ ftrue) ∷ ‵ (owns (ShrSlice (named 0) κ u8 ∷ []) (s, tt) (val s ∷ [], tt)) ∷ []) ∵
+      move ! (1 ∷ []) $ fsplit ! $ use1 W (‵ (Own κ s) ⊛ ‵ (Own κ s)) (shr-slice-copy 𝓤 H A W (named 0) κ u8 .twice s (val s ∷ [])) $ split ! $
+      move ! (0 ∷ 2 ∷ []) $ fjoin ! $ move ! (2 ∷ 0 ∷ []) $ use2 W (raw Pre) asks $ frame ! $ done !
+
+  pub lend-again : (Pre : SProp 𝓤) → ent 𝓤 Passed Pre
+      → ent 𝓤 (⋆ 𝓤 H A ((‵ (flft κ q) ⊛ ‵ ftrue) ∷ ‵ (Own κ s) ∷ [])) (sep 𝓤 Pre (sem 𝓤 H A (Own κ s)))
+  lend-again Pre asks =
+      qed W ((‵ (flft κ q) ⊛ ‵ ftrue) ∷ ‵ (Own κ s) ∷ []) ∵
+      move ! (1 ∷ []) $ use1 W (‵ (Own κ s) ⊛ ‵ (Own κ s)) (shr-slice-copy 𝓤 H A W (named 0) κ u8 .twice s (val s ∷ [])) $ split ! $ nothing ! $
+      move ! (1 ∷ 0 ∷ []) $ fjoin ! $ move ! (2 ∷ 0 ∷ []) $ use2 W (raw Pre) asks $ frame ! $ done !
+
 module _ {M : Type 1} (𝓤 : URA M) (H : Heap 𝓤) (A : Atoms 𝓤) (mem : Memory → SProp 𝓤) (run : Routine → Fun 𝓤) where
   abbrev pub Parse : Contract 𝓤
   Parse = tripleOf 𝓤 H A parse.signature (parse.spec 𝓤 H A mem run)
@@ -69,13 +90,7 @@ module _ {M : Type 1} (𝓤 : URA M) (H : Heap 𝓤) (A : Atoms 𝓤) (mem : Mem
     pub parse-said : (r : Code) → ent 𝓤 (ensured 𝓤 H A parse.ended (parse.clauses 𝓤 H A mem run) (κ, tt) (s, tt) tt r) (fact 𝓤 (Said s r))
     parse-said r = exE 𝓤 _ (λ ws. snd∗ 𝓤 (sem 𝓤 H A (lasts parse.ended (κ, tt) (s, tt) ws)) (fact 𝓤 (Said s r)))
 
-    -- what it asks. A `&[u8]` is Copy, so the caller keeps what s owns
-    pub goes-parse : Given 𝓤 H A → 16 ≤ length (now s)
-        → ent 𝓤 (⋆ 𝓤 H A ((‵ (flft κ q) ⊛ ‵ ftrue) ∷ ‵ (owns (ShrSlice (named 0) κ u8 ∷ []) (s, tt) (val s ∷ [], tt)) ∷ []))
-        (sep 𝓤 (Parse .pre to-parse) (sem 𝓤 H A (Own κ s)))
-    goes-parse W long =
-        qed W ((‵ (flft κ q) ⊛ ‵ ftrue) ∷ ‵ (owns (ShrSlice (named 0) κ u8 ∷ []) (s, tt) (val s ∷ [], tt)) ∷ []) ∵
-        move ! (1 ∷ []) $ fsplit ! $ use1 W (‵ (Own κ s) ⊛ ‵ (Own κ s)) (shr-slice-copy 𝓤 H A W (named 0) κ u8 .twice s (val s ∷ [])) $ split ! $
-        move ! (0 ∷ 2 ∷ []) $ fjoin ! $ move ! (2 ∷ 0 ∷ []) $ use2 W (raw (Parse .pre to-parse))
-        (qed W ((‵ (flft κ q) ⊛ ‵ ftrue) ∷ ‵ (owns (ShrSlice (named 0) κ u8 ∷ []) (s, tt) (val s ∷ [], tt)) ∷ []) ∵ says ! long $ frame ! $ done !) $
-        frame ! $ done !
+    -- what it asks
+    pub goes-parse : (W : Given 𝓤 H A) → 16 ≤ length (now s) → ent 𝓤 (Passed 𝓤 H A W κ q s) (sep 𝓤 (Parse .pre to-parse) (sem 𝓤 H A (Own κ s)))
+    goes-parse W long = lend 𝓤 H A W κ q s (Parse .pre to-parse)
+        (qed W ((‵ (flft κ q) ⊛ ‵ ftrue) ∷ ‵ (owns (ShrSlice (named 0) κ u8 ∷ []) (s, tt) (val s ∷ [], tt)) ∷ []) ∵ says ! long $ frame ! $ done !)

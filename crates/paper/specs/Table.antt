@@ -1,13 +1,15 @@
 -- The paper's numbers that are to be proved, in one table: what the definitions give, and what the paper says.
-use Prim.Native.Nat.{ℕ}
+use Prim.Native.Nat.{ℕ, _*_}
 use mathlib.Core.List.{List, [], _∷_, map}
-use lib.ListN.{getD, length}
+use lib.ListN.{getD, length, replicate}
 use lib.Ieee.{Float, nan, binary32, ofBits, toBits}
 use Rattle.digits.specs.Digits.{packed}
 use Rattle.scalar.specs.Code.{codeOf, quotient}
 use Rattle.root.specs.Root.{rootOf, valueOr}
-use Rattle.code.specs.Code.{codeSize}
+use Rattle.words.specs.Bytes.{numAt}
+use Rattle.code.specs.Code.{codeWords, codeSize, wordsBit}
 use Rattle.block.specs.Block.{blockSize}
+use Rattle.sums.specs.Sums.{plainSum, querySum, planeWord, planeCount}
 use Rattle.rerank.specs.Rerank.{State, Event, asked, supply, gave, done, drive}
 
 -- a float by its bits
@@ -26,6 +28,17 @@ codes4 lo hi xs = map (λ x. codeOf 15 (quotient 15 x lo hi)) xs
 abbrev pub rootBits : ℕ → ℕ
 rootBits b = toBits binary32 (valueOr nan (rootOf (f32 b)))
 
+-- query codes 3, 0, 15, 8, 1, and the word bytes of a code with the bits 1, 0, 1, 1, 0
+abbrev pub query : List ℕ
+query = 3 ∷ 0 ∷ 15 ∷ 8 ∷ 1 ∷ []
+
+abbrev pub word : List ℕ
+word = 13 ∷ 0 ∷ 0 ∷ 0 ∷ 0 ∷ 0 ∷ 0 ∷ 0 ∷ []
+
+-- 4,369 query codes of 15, and the word bytes of a code with all bits set
+abbrev pub greatest : ℕ
+greatest = plainSum (replicate 4369 15) (wordsBit (replicate (8 * codeWords 4369) 255))
+
 -- what the reranker says in a whole run over fresh lists, its Asks met from a list of distances: 1 and the place for Ask, 2 and the place for
 -- Give, 0 for Done
 abbrev pub said : List Event → List ℕ
@@ -40,12 +53,15 @@ run estimates distances =
     said (drive 20 (λ i. getD distances i nan) (record { size = length estimates; estimate = λ i. getD estimates i nan; distance = λ i. nan; mark = λ i. 0 }))
 
 -- what the definitions give
-abbrev pub given : List (List ℕ)
-given =
+abbrev pub rows : List (List ℕ)
+rows =
     -- sizes at dims 1, 65 and 4,369
     sizes 1
     ∷ sizes 65
     ∷ sizes 4369
+    -- planes 0 to 3, the word, the sum by planes and the plain sum, and Q
+    ∷ map (λ p. planeWord query p 0) (0 ∷ 1 ∷ 2 ∷ 3 ∷ [])
+    ∷ (numAt 8 word 0 ∷ planeCount query word ∷ plainSum query (wordsBit word) ∷ querySum query ∷ [])
     -- width 4, codes 1, 2, 3; width 2, codes 1, 2, 3, 0, 1
     ∷ packed 4 (1 ∷ 2 ∷ 3 ∷ [])
     ∷ packed 2 (1 ∷ 2 ∷ 3 ∷ 0 ∷ 1 ∷ [])
@@ -59,12 +75,18 @@ given =
     ∷ run (f32 0x3F80_0000 ∷ f32 0x4000_0000 ∷ []) (f32 0x4000_0000 ∷ f32 0x4000_0000 ∷ [])
     ∷ []
 
+abbrev pub given : List (List ℕ)
+given = (greatest ∷ []) ∷ rows
+
 -- what the paper says
 abbrev pub wanted : List (List ℕ)
 wanted =
-    (24 ∷ 528 ∷ [])
+    (65535 ∷ [])
+    ∷ (24 ∷ 528 ∷ [])
     ∷ (32 ∷ 784 ∷ [])
     ∷ (568 ∷ 18000 ∷ [])
+    ∷ (21 ∷ 5 ∷ 4 ∷ 12 ∷ [])
+    ∷ (13 ∷ 26 ∷ 26 ∷ 27 ∷ [])
     ∷ (0x21 ∷ 0x03 ∷ [])
     ∷ (0x39 ∷ 0x01 ∷ [])
     ∷ (2 ∷ 4 ∷ 0 ∷ 15 ∷ [])

@@ -6,7 +6,7 @@ use Prim.Native.Nat.{ℕ, zero, suc, _+_, _*_, _<_, _≤_}
 use native.Mathlib.Nat.{zero-add}
 use native.Mathlib.Omega.{arith}
 use borrow.Author.Tests.{lt-ltb, le-ltb, eq-eqb}
-use lib.Dec.{T, eqb, ltb}
+use lib.Dec.{T, eqb}
 use lib.ListN.{length, getD, set, length-set, length-append}
 use lib.Seq.{sets}
 use lib.Ieee.{Float, nan, inf, fin, isNan, ne, binary32, ofBits, toBits}
@@ -111,13 +111,21 @@ module _ (a : Answer) (n : ℕ) (out : List ℕ) where
   done-bytes e h = rw e (h ∙ ap (λ (z : List ℕ). bytesOf 4 0 ++ bytesOf 4 0 ++ z ++ bytesOf 4 n) zero-bytes)
 
 -- ---- what a call on lists of the right lengths finds
-pub accepting : (e d m : List ℕ) (s : Scan) (r : ℕ) → badLists e d m ≡ false → ScanTo e d m (length m) s
-    → r ≡ cond (ltb 0 (s .keys .missing)) 4 (cond (ltb 0 (s .bad)) 5 0) → r ≡ 0 → Accepting e d m s
-accepting e d m s r h k p z = record { sized = h; scanned = k; accepted = sym (p ∙ found-refusal e d m s k) ∙ z }
+module _ (e d m : List ℕ) (s : Scan) (k : ScanTo e d m (length m) s) where
+  pub ruled-missing : (r : Ruling) → r .refused ≡ 4 → 0 < s .keys .missing → Ruled e d m r
+  ruled-missing r q h =
+      let n : 4 ≡ nextRefusal (stateOf e d m) = rw (lt-ltb 0 (s .keys .missing) h) at (found-refusal e d m s k) in
+      record { refusal = q ∙ n; says = λ z. absurd (omega arith) }
 
-pub ruled-refused : (e d m : List ℕ) (s : Scan) (r : Ruling) → ScanTo e d m (length m) s
-    → r .refused ≡ cond (ltb 0 (s .keys .missing)) 4 (cond (ltb 0 (s .bad)) 5 0) → (r .refused ≡ 0 → ⊥) → Ruled e d m r
-ruled-refused e d m s r k p z = record { refusal = p ∙ found-refusal e d m s k; says = λ w. absurd (z w) }
+  pub ruled-bad : (r : Ruling) → r .refused ≡ 5 → s .keys .missing ≤ 0 → 0 < s .bad → Ruled e d m r
+  ruled-bad r q l h =
+      let n : 5 ≡ nextRefusal (stateOf e d m) = rw (le-ltb 0 (s .keys .missing) l, lt-ltb 0 (s .bad) h) at (found-refusal e d m s k) in
+      record { refusal = q ∙ n; says = λ z. absurd (omega arith) }
+
+  pub accepting : badLists e d m ≡ false → s .keys .missing ≤ 0 → s .bad ≤ 0 → Accepting e d m s
+  accepting h l b =
+      let n : 0 ≡ nextRefusal (stateOf e d m) = rw (le-ltb 0 (s .keys .missing) l, le-ltb 0 (s .bad) b) at (found-refusal e d m s k) in
+      record { sized = h; scanned = k; accepted = sym n }
 
 pub ruled-accepted : (e d m : List ℕ) (s : Scan) (r : Ruling) → Accepting e d m s → r .refused ≡ 0 → r .answer ≡ answer (stateOf e d m) → r .count ≡ s .count
     → Ruled e d m r

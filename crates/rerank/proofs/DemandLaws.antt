@@ -7,36 +7,32 @@ use lib.Ieee.{isNan, ofBits, toBits, binary32}
 use lib.Ieee.Bits.{toBits-ofBits}
 use mathlib.Core.Bool.{Bool, false, not}
 use Rattle.rerank.specs.Rerank.{State, Event, done, Run}
-use Rattle.rerank.specs.Demand.{Fresh, Lower, Finished, Demand3, Lists, Call, held, heard, Demand}
+use Rattle.rerank.specs.Demand.{Fresh, Lower, Always, Ordered, Finished, held, heard, Demand}
 use Rattle.rerank.proofs.RuleLaws.{supply-clean}
-use Rattle.rerank.proofs.RunLaws.{run-cut, blame, exact, all-below, none-above, never-falls}
+use Rattle.rerank.proofs.RunLaws.{blame, exact, all-below, none-above, never-falls}
 use Rattle.rerank.proofs.TallyLaws.{once, finished, comes-to-done}
 use Rattle.rerank.proofs.ByteRunLaws.{calls-run, calls-count}
 
 -- ---- over runs
-module _ (s : State) (es : List Event) (f : Fresh s) (r : Run s (es ++ (done ∷ []))) where
-  before : Run s es
-  before = run-cut s es (done ∷ []) r .0
-
-  pub finished-run : Finished s es
-  finished-run =
+module _ (s : State) (es : List Event) (f : Fresh s) (r : Run s es) where
+  pub run-always : Always s es
+  run-always =
       record {
         one-by-one = λ fs gs p d e h. supply-clean _ p d h .2;
-        once = once s es r f;
-        exact = λ fs gs p d e. exact s fs gs p d (subst (Run s) e before) f;
-        below = λ fs gs p q d e. all-below s fs gs p q d (subst (Run s) e before);
-        blame = λ fs gs hs x y dx dy e. blame s fs gs hs x y dx dy (subst (Run s) e before);
-        distances = finished s es r f .0;
-        gives = finished s es r f .1;
+        exact = λ fs gs p d e. exact s fs gs p d (subst (Run s) e r) f;
+        below = λ fs gs p q d e. all-below s fs gs p q d (subst (Run s) e r);
+        blame = λ fs gs hs x y dx dy e. blame s fs gs hs x y dx dy (subst (Run s) e r);
       }
 
-  pub demand3 : Lower (s .estimate) es → Demand3 s es
-  demand3 l =
+  pub run-ordered : Lower (s .estimate) es → Ordered s es
+  run-ordered l =
       record {
-        finished = finished-run;
-        rising = λ fs gs hs x y dx dy e. never-falls s fs gs hs x y dx dy (subst (Run s) e before) f (subst (Lower (s .estimate)) e l);
-        above = λ fs gs p q d e. none-above s fs gs p q d (subst (Run s) e before) f (subst (Lower (s .estimate)) e l);
+        rising = λ fs gs hs x y dx dy e. never-falls s fs gs hs x y dx dy (subst (Run s) e r) f (subst (Lower (s .estimate)) e l);
+        above = λ fs gs p q d e. none-above s fs gs p q d (subst (Run s) e r) f (subst (Lower (s .estimate)) e l);
       }
+
+pub run-finished : (s : State) (es : List Event) → Fresh s → Run s (es ++ (done ∷ [])) → Finished s es
+run-finished s es f r = record { once = once s es r f; distances = finished s es r f .0; gives = finished s es r f .1 }
 
 -- ---- over bytes
 same-bits : (u v : ℕ) → u < 2 ^ 32 → v < 2 ^ 32 → isNan (ofBits binary32 u) ≡ false → ofBits binary32 u ≡ ofBits binary32 v → u ≡ v
@@ -46,16 +42,14 @@ same-bits u v hu hv n e =
     number : {b : Bool} → b ≡ false → T (not b)
     number h = subst (λ (b : Bool). T (not b)) (sym h) tt
 
-heard-run : (b : Lists) (cs : List Call) (es : List Event) → heard b cs ≡ es ++ (done ∷ []) → Run (held b) (es ++ (done ∷ []))
-heard-run b cs es e = subst (Run (held b)) e (calls-run b cs .0)
-
 pub demand : Demand
 demand =
     record {
       runs = calls-run;
       counts = calls-count;
-      finishes = λ b cs es f e. finished-run (held b) es f (heard-run b cs es e);
-      holds = λ b cs es f e l. demand3 (held b) es f (heard-run b cs es e) l;
+      always = λ b cs f. run-always (held b) (heard b cs) f (calls-run b cs .0);
+      ordered = λ b cs f. run-ordered (held b) (heard b cs) f (calls-run b cs .0);
+      finished = λ b cs es f e. run-finished (held b) es f (subst (Run (held b)) e (calls-run b cs .0));
       ends = comes-to-done;
       bits = same-bits;
     }

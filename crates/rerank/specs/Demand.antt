@@ -27,7 +27,7 @@ Lower f (supply p d ∷ es) = (lt d (f p) ≡ false) × Lower f es
 Lower f (gave p d ∷ es) = Lower f es
 Lower f (done ∷ es) = Lower f es
 
--- ---- what holds of a run to Done, es being the calls before that Done. `ran s fs` is the state after the calls fs
+-- ---- what holds of the accepted calls es from fresh lists on. `ran s fs` is the state after the calls fs
 
 -- the distance d was supplied for p
 pub record Supplied (p : ℕ) (d : Float) (es : List Event) : Type 0 where
@@ -36,11 +36,9 @@ pub record Supplied (p : ℕ) (d : Float) (es : List Event) : Type 0 where
   pub here : es ≡ earlier ++ (supply p d ∷ later)
 
 -- with or without the premise
-pub record Finished (s : State) (es : List Event) : Type 0 where
+pub record Always (s : State) (es : List Event) : Type 0 where
   -- one by one: in each state only the place that Ask names can be supplied
   pub one-by-one : (fs gs : List Event) (p : ℕ) (d : Float) → es ≡ fs ++ gs → supplyRefusal (ran s fs) p d ≡ 0 → answer (ran s fs) ≡ Ask p
-  -- every candidate is handed out once, and its distance was supplied once
-  pub once : (q : ℕ) → q < s .size → (tally (giveOf q) es ≡ 1) × (tally (supplyOf q) es ≡ 1)
   -- exact: what is handed out is the distance that was supplied for it
   pub exact : (fs gs : List Event) (p : ℕ) (d : Float) → es ≡ fs ++ (gave p d ∷ gs) → Supplied p d fs
   -- when one is handed out at d, every candidate with an estimate below d has been asked for
@@ -49,18 +47,22 @@ pub record Finished (s : State) (es : List Event) : Type 0 where
   -- if x is given and later y, and y's distance is less, then y's own estimate was above y's distance
   pub blame : (fs gs hs : List Event) (x y : ℕ) (dx dy : Float) → es ≡ fs ++ (gave x dx ∷ (gs ++ (gave y dy ∷ hs)))
       → lt dy dx ≡ true → lt dy (s .estimate y) ≡ true
-  -- n accepted distances and n gives
-  pub distances : tally aSupply es ≡ s .size
-  pub gives : tally aGive es ≡ s .size
 
 -- with the premise
-pub record Demand3 (s : State) (es : List Event) : Type 0 where
-  pub finished : Finished s es
+pub record Ordered (s : State) (es : List Event) : Type 0 where
   -- distances never fall
   pub rising : (fs gs hs : List Event) (x y : ℕ) (dx dy : Float) → es ≡ fs ++ (gave x dx ∷ (gs ++ (gave y dy ∷ hs))) → lt dy dx ≡ false
   -- when one is handed out at d, no candidate with an estimate above d has been asked for
   pub above : (fs gs : List Event) (p q : ℕ) (d : Float) → es ≡ fs ++ (gave p d ∷ gs) → q < s .size → lt d (s .estimate q) ≡ true
       → ran s fs .mark q ≡ 0
+
+-- where Done follows es, with or without the premise
+pub record Finished (s : State) (es : List Event) : Type 0 where
+  -- every candidate is handed out once, and its distance was supplied once
+  pub once : (q : ℕ) → q < s .size → (tally (giveOf q) es ≡ 1) × (tally (supplyOf q) es ≡ 1)
+  -- n accepted distances and n gives
+  pub distances : tally aSupply es ≡ s .size
+  pub gives : tally aGive es ≡ s .size
 
 -- a run to Done
 pub record Ends (s : State) (es : List Event) : Type 0 where
@@ -124,19 +126,18 @@ heard b (c ∷ cs) = seen c (call b c) ++ heard (call b c .lists) cs
 unfoldable pub notWaiting : State → ℕ
 notWaiting s = sumTo (s .size) (λ i. cond (eqb (s .mark i) 0) 0 1)
 
--- demand 3. b is any lent lists, cs any calls on them, and nothing else changes them; es is what was heard before Done. (Lists of other
--- lengths, or of more than 4,096 places, are refused, and nothing is heard.)
+-- demand 3. b is any lent lists, cs any calls on them, and nothing else changes them. (Lists of other lengths, or of more than 4,096 places,
+-- are refused, and nothing is heard.)
 pub record Demand : Type 0 where
   -- the accepted calls are a run of the rule, and the bytes hold its states
   pub runs : (b : Lists) (cs : List Call) → Run (held b) (heard b cs) × (held (left b cs) ≡ ran (held b) (heard b cs))
   -- the count that an accepted call reports is that of the candidates no longer waiting
   pub counts : (b : Lists) (c : Call) → call b c .number ≡ 0 → reported c (call b c) ≡ notWaiting (held (call b c .lists))
-  -- with or without the premise
-  pub finishes : (b : Lists) (cs : List Call) (es : List Event) → Fresh (held b) → heard b cs ≡ es ++ (done ∷ []) → Finished (held b) es
-  -- with it
-  pub holds : (b : Lists) (cs : List Call) (es : List Event) → Fresh (held b) → heard b cs ≡ es ++ (done ∷ []) → Lower (held b .estimate) es
-      → Demand3 (held b) es
+  pub always : (b : Lists) (cs : List Call) → Fresh (held b) → Always (held b) (heard b cs)
+  pub ordered : (b : Lists) (cs : List Call) → Fresh (held b) → Lower (held b .estimate) (heard b cs) → Ordered (held b) (heard b cs)
+  pub finished : (b : Lists) (cs : List Call) (es : List Event) → Fresh (held b) → heard b cs ≡ es ++ (done ∷ []) → Finished (held b) es
   -- a caller that supplies a number for whatever is asked for comes to Done, in at most 2 n + 1 turns
-  pub ends : (s : State) (table : ℕ → Float) → Fresh s → ((q : ℕ) → q < s .size → isNan (table q) ≡ false) → Ends s (drive (2 * s .size + 1) table s)
+  pub ends : (s : State) (table : ℕ → Float) → Fresh s → ((q : ℕ) → q < s .size → isNan (table q) ≡ false)
+      → Ends s (drive (2 * s .size + 1) table s)
   -- floats that are no NaN are equal only where their bits are: so what is handed out has the bits that were supplied
   pub bits : (u v : ℕ) → u < 2 ^ 32 → v < 2 ^ 32 → isNan (ofBits binary32 u) ≡ false → ofBits binary32 u ≡ ofBits binary32 v → u ≡ v

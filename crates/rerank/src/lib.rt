@@ -237,20 +237,6 @@ fn bad_lists(e: &[u8], d: &[u8], m: &[u8]) -> bool
     d.len() != 4 * n
 }
 
-// The refusal by what the scan found.
-fn refusal(s: Scan) -> u32
-    ensures { λ r. ⌜ r ≡ cond (ltb 0 (s .keys .missing)) 4 (cond (ltb 0 (s .bad)) 5 0) ⌝ }
-{
-    let keys = s.keys;
-    if 0 < keys.missing {
-        return words::MISSING;
-    }
-    if 0 < s.bad {
-        return words::BAD_VALUE;
-    }
-    words::ACCEPTED
-}
-
 // What the rule says, by what the scan found. NO_KEY is above every key, so that no test for an empty set is needed before the first.
 fn choose(e: &[u8], d: &[u8], m: &[u8], s: Scan) -> Answer
     requires { ⌜ Accepting (now e) (now d) (now m) s ⌝ }
@@ -275,21 +261,31 @@ struct Ruling {
     count: u32,
 }
 
+fn refused_with(number: u32) -> Ruling
+    ensures { λ r. ⌜ r .refused ≡ number ⌝ }
+{
+    Ruling {
+        refused: number,
+        answer: Answer::Done,
+        count: 0,
+    }
+}
+
+// The two tests stand in branches of their own: joined, they would keep the loops before them from going by vectors.
 fn rule_on(e: &[u8], d: &[u8], m: &[u8]) -> Ruling
     requires { ⌜ badLists (now e) (now d) (now m) ≡ false ⌝ }
     ensures { λ r. ⌜ Ruled (now (e .entry)) (now (d .entry)) (now (m .entry)) r ⌝ }
 {
     let s = scan_lists(e, d, m);
-    let refused = refusal(s);
-    if refused != 0 {
-        return Ruling {
-            refused: refused,
-            answer: Answer::Done,
-            count: 0,
-        };
+    let keys = s.keys;
+    if 0 < keys.missing {
+        return refused_with(words::MISSING);
+    }
+    if 0 < s.bad {
+        return refused_with(words::BAD_VALUE);
     }
     Ruling {
-        refused: 0,
+        refused: words::ACCEPTED,
         answer: choose(e, d, m, s),
         count: s.count,
     }

@@ -2,4 +2,3 @@ pub mod RoundLaws
 pub mod ScalarLaws
 pub mod TableLaws
 pub mod CallLaws
-pub mod Rows

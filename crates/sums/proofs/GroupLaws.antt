@@ -5,7 +5,8 @@ use Prim.Native.Nat.{ℕ, zero, suc, _+_, _-_, _*_, _/_, _%_, _^_, _<_, _≤_, m
 use mathlib.Core.List.{List}
 use mathlib.Core.Logic.{⊎-elim}
 use native.Mathlib.Omega.{arith}
-use native.Mathlib.Nat.{zero-add, zero-mul, mul-zero, mul-one, one-mul, zero-min, min-eq-right, div-div-eq-div-mul, not-suc-le-zero, le-of-suc-le-suc, add-zero, mul-le-mul, lt-of-lt-of-le}
+use native.Mathlib.Nat.{zero-add, zero-mul, mul-zero, mul-one, one-mul, zero-min}
+use native.Mathlib.Nat.{min-eq-right, div-div-eq-div-mul, not-suc-le-zero, le-of-suc-le-suc, add-zero, mul-le-mul, lt-of-lt-of-le}
 use lib.Dec.{lit<}
 use lib.Pow.{pow-mono}
 use lib.ListN.{length, getD, replicate, getD-replicate, List·getD-eq-default}
@@ -76,12 +77,14 @@ module _ (qs t : List ℕ) (wide : Wide qs t) where
   wide-small q i l = omega (arith, wide .each i l, q .small (i / 16))
 
   pub group-of : (g j m r : ℕ) → g < blockGroups (length qs) → j < 16
-      → r ≡ getD t (64 * g + j) 0 * bit m 0 + getD t (64 * g + 16 + j) 0 * bit m 1 + getD t (64 * g + 32 + j) 0 * bit m 2 + getD t (64 * g + 48 + j) 0 * bit m 3
+      → r ≡ getD t (64 * g + j) 0 * bit m 0 + getD t (64 * g + 16 + j) 0 * bit m 1 + getD t (64 * g + 32 + j) 0 * bit m 2
+      + getD t (64 * g + 48 + j) 0 * bit m 3
       → r ≡ groupSum qs g m
   group-of g j m r h lj e =
       e
       ∙ ap₂ (λ (x y : ℕ). x + y)
-      (ap₂ (λ (x y : ℕ). x + y) (ap₂ (λ (x y : ℕ). x * bit m 0 + y * bit m 1) (at (64 * g + j) (4 * g) (omega arith) (omega arith)) (at (64 * g + 16 + j) (4 * g + 1) (omega arith) (omega arith)))
+      (ap₂ (λ (x y : ℕ). x + y)
+      (ap₂ (λ (x y : ℕ). x * bit m 0 + y * bit m 1) (at (64 * g + j) (4 * g) (omega arith) (omega arith)) (at (64 * g + 16 + j) (4 * g + 1) (omega arith) (omega arith)))
       (ap (λ (x : ℕ). x * bit m 2) (at (64 * g + 32 + j) (4 * g + 2) (omega arith) (omega arith))))
       (ap (λ (x : ℕ). x * bit m 3) (at (64 * g + 48 + j) (4 * g + 3) (omega arith) (omega arith)))
       ∙ sym (group-four qs g m)
@@ -169,7 +172,8 @@ module _ (qs block : List ℕ) (at g a n : ℕ) {acc part : List ℕ} (held : Si
   pub sixteen-fit : Query qs → a + n ≤ 1024 → (j : ℕ) → j < 16 → getD acc j 0 + getD part j 0 < 65536
   sixteen-fit q h j l = omega (arith, sixteen-add j l, groups-le qs (laneNibble block (j + at)) q g (a + n))
 
-  pub sixteen-more : (acc′ : List ℕ) → length acc′ ≡ 16 → ((j : ℕ) → j < 16 → getD acc′ j 0 ≡ getD acc j 0 + getD part j 0) → Sixteen qs block at g (a + n) acc′
+  pub sixteen-more : (acc′ : List ℕ) → length acc′ ≡ 16 → ((j : ℕ) → j < 16 → getD acc′ j 0 ≡ getD acc j 0 + getD part j 0)
+      → Sixteen qs block at g (a + n) acc′
   sixteen-more acc′ len sums = record { long = len; each = λ j l. sums j l ∙ sixteen-add j l }
 
 pub sixteen-none : (qs block : List ℕ) (at g : ℕ) → Sixteen qs block at g 0 (replicate 16 0)

@@ -5,4 +5,4 @@ pub mod PlaneLaws
 pub mod TableLaws
 pub mod CallLaws
 pub mod SumsLaws
-pub mod Worked
+pub mod FullLaws

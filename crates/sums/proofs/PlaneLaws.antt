@@ -5,7 +5,8 @@ use Prim.Native.Nat.{ℕ, zero, suc, _+_, _-_, _*_, _/_, _%_, _^_, _<_, _≤_, m
 use mathlib.Core.Logic.{⊎-elim}
 use mathlib.Core.List.{List}
 use native.Mathlib.Omega.{arith}
-use native.Mathlib.Nat.{add-assoc, add-zero, zero-mul, mul-zero, mul-one, mul-comm, mul-left-comm, zero-div, le-of-lt, min-eq-left, min-eq-right, min-le-left, not-suc-le-zero, le-of-suc-le-suc}
+use native.Mathlib.Nat.{add-assoc, add-zero, zero-mul, mul-zero, mul-one, mul-comm, mul-left-comm}
+use native.Mathlib.Nat.{zero-div, le-of-lt, min-eq-left, min-eq-right, min-le-left, not-suc-le-zero, le-of-suc-le-suc}
 use lib.ListN.{length, getD, take, drop, replicate, getD-replicate, length-replicate, length-take, List·getD-eq-default}
 use lib.Seq.{getD-take, getD-drop}
 use lib.Bits.{bitAnd, and-comm}
@@ -44,8 +45,10 @@ part-at qs at end i e h = ⊎-elim inside outside (lt-or-ge i (end - at))
 
     outside : end - at ≤ i → getD (take (end - at) (drop at qs)) i 0 ≡ getD qs (at + i) 0
     outside l =
-        let over : length qs ≤ at + i = ⊎-elim (λ (k : length qs < at + 64). omega (arith, min-eq-right (le-of-lt k))) (λ (k : at + 64 ≤ length qs). absurd (omega (arith, min-eq-left k))) (lt-or-ge (length qs) (at + 64)) in
-        List·getD-eq-default (take (end - at) (drop at qs)) 0 {n = i} (omega (arith, length-take (end - at) (drop at qs), min-le-left (end - at) (length (drop at qs))))
+        let over : length qs ≤ at + i = ⊎-elim (λ (k : length qs < at + 64). omega (arith, min-eq-right (le-of-lt k)))
+        (λ (k : at + 64 ≤ length qs). absurd (omega (arith, min-eq-left k))) (lt-or-ge (length qs) (at + 64)) in
+        List·getD-eq-default (take (end - at) (drop at qs)) 0 {n = i}
+        (omega (arith, length-take (end - at) (drop at qs), min-le-left (end - at) (length (drop at qs))))
         ∙ sym (List·getD-eq-default qs 0 {n = at + i} over)
 
 -- four digits in a byte each, gathered by one product
@@ -108,7 +111,8 @@ ones-plane qs p w a =
 
 -- the four planes of one word: the plain sum over the word's 64 dimensions
 word-sum : (qs : List ℕ) → Query qs → (w a : ℕ)
-    → ones (bitAnd a (planeWord qs 0 w)) + 2 * ones (bitAnd a (planeWord qs 1 w)) + 4 * ones (bitAnd a (planeWord qs 2 w)) + 8 * ones (bitAnd a (planeWord qs 3 w))
+    → ones (bitAnd a (planeWord qs 0 w)) + 2 * ones (bitAnd a (planeWord qs 1 w)) + 4 * ones (bitAnd a (planeWord qs 2 w))
+    + 8 * ones (bitAnd a (planeWord qs 3 w))
     ≡ sumTo 64 (λ i. getD qs (64 * w + i) 0 * bit a i)
 word-sum qs q w a =
     rw (ones-plane qs 0 w a, ones-plane qs 1 w a, ones-plane qs 2 w a, ones-plane qs 3 w a)
@@ -133,7 +137,8 @@ planes-plain qs words q bytes =
     ∙ sum-ext 64 (λ i. getD qs (64 * w + i) 0 * bit (numAt 8 words (8 * w)) i) (λ i. term (64 * w + i))
     (λ i li. ap (λ (x : ℕ). getD qs (64 * w + i) 0 * x) (words-bit words bytes w i li)))
     ∙ sum-blocks 64 n term
-    ∙ sum-pad (length qs) (64 * n) term (omega arith) (λ d ld. ap (λ (x : ℕ). x * wordsBit words d) (List·getD-eq-default qs 0 ld) ∙ zero-mul (wordsBit words d))
+    ∙ sum-pad (length qs) (64 * n) term (omega arith)
+    (λ d ld. ap (λ (x : ℕ). x * wordsBit words d) (List·getD-eq-default qs 0 ld) ∙ zero-mul (wordsBit words d))
   where
     n : ℕ
     n = codeWords (length qs)
@@ -155,5 +160,6 @@ pub held-ones : (qs words t : List ℕ) (p at : ℕ) → PlaneAt qs p t at
     → sumTo (codeWords (length qs)) (λ w. ones (bitAnd (numAt 8 words (8 * w)) (getD t (at + w) 0))) ≡ planeOnes qs words p
 unfolding planeOnes
 held-ones qs words t p at plane =
-    sum-ext (codeWords (length qs)) (λ w. ones (bitAnd (numAt 8 words (8 * w)) (getD t (at + w) 0))) (λ w. ones (bitAnd (numAt 8 words (8 * w)) (planeWord qs p w)))
+    sum-ext (codeWords (length qs)) (λ w. ones (bitAnd (numAt 8 words (8 * w)) (getD t (at + w) 0)))
+    (λ w. ones (bitAnd (numAt 8 words (8 * w)) (planeWord qs p w)))
     (λ w l. ap (λ (x : ℕ). ones (bitAnd (numAt 8 words (8 * w)) x)) (plane w l))

@@ -87,4 +87,5 @@ pub packed-sum : (qs codes : List ℕ) (k : ℕ) → k < 32
 unfolding packed
 packed-sum qs codes k l =
     plain-ext qs _ (codeBit (codeAt (length qs) codes k))
-    (λ d h. bit-of-block (length qs) (λ k i. getD (codeAt (length qs) codes k) i 0) (λ k. codeBit (codeAt (length qs) codes k)) (λ k d. code-bit-lt (codeAt (length qs) codes k) d) k d l h)
+    (λ d h. bit-of-block (length qs) (λ k i. getD (codeAt (length qs) codes k) i 0) (λ k. codeBit (codeAt (length qs) codes k))
+    (λ k d. code-bit-lt (codeAt (length qs) codes k) d) k d l h)

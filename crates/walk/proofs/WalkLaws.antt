@@ -1,14 +1,14 @@
 -- Laws of specs/Walk: records, the bounds that loops write, marks. Assumes nothing.
 use mathlib.Core.Path.{_≡_, refl, sym, ap, ap₂, _∙_}
 use mathlib.Core.Bool.{Bool, true, false, _&&_}
-use Prim.Native.Nat.{ℕ, suc, _+_, _-_, _*_, _/_, _%_, _<_, _≤_}
+use Prim.Native.Nat.{ℕ, zero, suc, _+_, _-_, _*_, _/_, _%_, _<_, _≤_}
 use mathlib.Core.List.{List, _∷_, [], _++_, append-assoc}
 use native.Mathlib.Omega.{arith}
-use native.Mathlib.Nat.{mul-le-mul, mul-comm, add-mul}
+use native.Mathlib.Nat.{mul-le-mul, mul-comm, add-mul, zero-add, suc-add}
 use native.Mathlib.Numerals.{add-one}
 use lib.Dec.{T, ltb}
-use lib.ListN.{length, take, drop, set, replicate, length-take, length-drop, length-replicate, replicate-append-replicate, take-append-drop}
-use lib.Seq.{drop-cons, set-at, sets, sets-eq, length-sets, drop-append-le, take-append-le, length-take-le, take-all}
+use lib.ListN.{length, take, drop, set, replicate, length-take, length-drop, length-replicate, replicate-append-replicate}
+use lib.Seq.{drop-cons, set-at, sets, sets-eq, length-sets, take-take, take-all, take-nil}
 use lib.Ieee.{Float, isNan, nanBits, fits, toBits, binary32}
 use lib.Ieee.Bits.{nanBits-is, is-false}
 use borrow.Author.Tests.{lt-ltb, ltb-false}
@@ -51,10 +51,12 @@ blocks-more buf buf′ b f g h e same w =
     let size = length-wordsOf 32 g in
     let at : 128 * (b + 1) ≡ 128 * b + length (wordsOf 32 g) = omega arith in
     let next : 32 * b + 32 ≡ 32 * (b + 1) = omega arith in
-    rw e
-    (ap (λ (x : ℕ). take x (sets buf (128 * b) (wordsOf 32 g))) at ∙ take-sets buf (128 * b) (wordsOf 32 g) (omega arith)
-    ∙ ap₂ (λ (x y : List ℕ). x ++ y) w (words-ext 32 g (λ k. f (32 * b + k)) same)
-    ∙ sym (words-split (32 * b) 32 f) ∙ ap (λ (x : ℕ). wordsOf x f) next, length-sets buf (128 * b) (wordsOf 32 g))
+    rw e (
+      ap (λ (x : ℕ). take x (sets buf (128 * b) (wordsOf 32 g))) at ∙ take-sets buf (128 * b) (wordsOf 32 g) (omega arith)
+          ∙ ap₂ (λ (x y : List ℕ). x ++ y) w (words-ext 32 g (λ k. f (32 * b + k)) same)
+          ∙ sym (words-split (32 * b) 32 f) ∙ ap (λ (x : ℕ). wordsOf x f) next,
+      length-sets buf (128 * b) (wordsOf 32 g),
+    )
 
 -- lane k of block first + b is id 32 * first + (32 * b + k)
 pub lane-bound : (m : Metric) (v : Query) (qs rs : List ℕ) (first b k : ℕ) → k < 32
@@ -66,22 +68,24 @@ lane-bound m v qs rs first b k h =
     ap₂ (λ (x y : ℕ). laneEstimate LowerBound m v qs (recordOf (blockSize (length qs)) rs x) y) block lane
 
 -- a part of what a list begins with
-part-of-front : (n k m : ℕ) (l : List ℕ) → k + m ≤ n → n ≤ length l → take m (drop k l) ≡ take m (drop k (take n l))
-part-of-front n k m l h r =
-    let e : take n l ++ drop n l ≡ l = take-append-drop n l in
-    let s : length (take n l) ≡ n = length-take-le n l r in
-    ap (λ (x : List ℕ). take m (drop k x)) (sym e)
-    ∙ ap (take m) (drop-append-le k (take n l) (drop n l) (omega arith))
-    ∙ take-append-le m (drop k (take n l)) (drop n l) (omega (arith, length-drop k (take n l)))
+drop-take : (k n : ℕ) (l : List ℕ) → drop k (take (k + n) l) ≡ take n (drop k l)
+drop-take zero n l = ap (λ (x : ℕ). take x l) (zero-add n)
+drop-take (suc k) n [] = ap (drop (suc k)) (take-nil {A = ℕ} (suc k + n)) ∙ sym (take-nil n)
+drop-take (suc k) n (x ∷ l) = ap (λ (y : ℕ). drop (suc k) (take y (x ∷ l))) (suc-add k n) ∙ drop-take k n l
+
+pub part-of-front : (n k m : ℕ) (l : List ℕ) → k + m ≤ n → take m (drop k l) ≡ take m (drop k (take n l))
+part-of-front n k m l h =
+    let e : k + (n - k) ≡ n = omega arith in
+    sym (ap (λ (x : ℕ). take m (drop k (take x l))) (sym e) ∙ ap (take m) (drop-take k (n - k) l) ∙ take-take m (n - k) (drop k l) (omega arith))
 
 -- c ids from start on, among the lanes of the blocks that they reach into
-pub wanted : (m : Metric) (v : Query) (qs rs : List ℕ) (start c count : ℕ) (buf : List ℕ) → start % 32 + c ≤ 32 * count → 128 * count ≤ length buf
+pub wanted : (m : Metric) (v : Query) (qs rs : List ℕ) (start c count : ℕ) (buf : List ℕ) → start % 32 + c ≤ 32 * count
     → take (128 * count) buf ≡ boundWords Blocks m v qs rs (32 * (start / 32)) (32 * count)
     → take (4 * c) (drop (4 * (start % 32)) buf) ≡ boundWords Blocks m v qs rs start c
 unfolding boundWords
-wanted m v qs rs start c count buf h r e =
+wanted m v qs rs start c count buf h e =
     let f : ℕ → ℕ = λ j. toBits binary32 (boundOf Blocks m v qs rs (32 * (start / 32) + j)) in
-    part-of-front (128 * count) (4 * (start % 32)) (4 * c) buf (omega arith) r
+    part-of-front (128 * count) (4 * (start % 32)) (4 * c) buf (omega arith)
     ∙ ap (λ (x : List ℕ). take (4 * c) (drop (4 * (start % 32)) x)) e
     ∙ words-part (32 * count) (start % 32) c f h
     ∙ words-ext c (λ j. f (start % 32 + j)) (λ j. toBits binary32 (boundOf Blocks m v qs rs (start + j)))

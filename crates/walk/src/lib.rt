@@ -175,7 +175,16 @@ fn fill_bounds(
         }
         Layout::Blocks => {
             let lane = start % 32;
-            fill_blocks(m, p, q, records, (n + 31) / 32, start / 32, (lane + c + 31) / 32, buf);
+            fill_blocks(
+                m,
+                p,
+                q,
+                records,
+                (n + 31) / 32,
+                start / 32,
+                (lane + c + 31) / 32,
+                buf,
+            );
             lane
         }
     }

@@ -1,5 +1,5 @@
 -- `block::block_lane` meets its contract. Assumes nothing.
-use mathlib.Core.Path.{_≡_, sym, ap, _∙_}
+use mathlib.Core.Path.{sym, ap, _∙_}
 use Prim.Native.Nat.{ℕ}
 use mathlib.Core.List.{List}
 use denote.Ref.{now}
@@ -12,7 +12,6 @@ use Rattle.block.proofs.CallLaws.{lane-dims, lane-length, lane-range, l
 use borrow.Author.Needs.{needs}
 use Rattle.block.proofs.block_lane.Statement.{statement}
 use Rattle.block.proofs.block_lane.Tie as tie
-use Rattle.code.proofs.parts.size.Reads as parts-size-reads′
 
 bad-dims-requires : tie.Need-bad-dims-requires
 bad-dims-requires c κs = search needs
@@ -30,7 +29,7 @@ returns-2 c =
     let a = c .before .before .before .before .before .before .args in
     let d = sym (c .before .before .before .bad-dims .ensures) ∙ c .before .before .if1 .left in
     lane-length (a .dims) (now (a .block)) (a .lane) (now (a .code)) d
-    (first-bad _ _ (unsized (now (a .block)) (blockSize (a .dims)) (λ e. c .if2 .taken (e ∙ sym (c .before .size .ensures)))))
+    (first-bad _ _ (unsized (now (a .block)) (blockSize (a .dims)) (λ e. omega arith)))
 
 size-requires-2 : tie.Need-size-requires-2
 size-requires-2 c κs = few-dims mostDims _ (sym (c .before .before .before .bad-dims .ensures) ∙ c .before .before .if1 .left)
@@ -39,22 +38,22 @@ returns-3 : tie.Need-returns-3
 returns-3 c =
     let a = c .before .before .before .before .before .before .before .before .args in
     let d = sym (c .before .before .before .before .before .bad-dims .ensures) ∙ c .before .before .before .before .if1 .left in
-    let b = sized (now (a .block)) (blockSize (a .dims)) (c .before .before .if2 .left ∙ c .before .before .before .size .ensures) in
+    let b = sized (now (a .block)) (blockSize (a .dims)) (omega arith) in
     lane-length (a .dims) (now (a .block)) (a .lane) (now (a .code)) d
-    (second-bad _ _ b (unsized (now (a .code)) (codeSize (a .dims)) (λ e. c .if3 .taken (e ∙ sym (c .before .size2 .ensures)))))
+    (second-bad _ _ b (unsized (now (a .code)) (codeSize (a .dims)) (λ e. omega arith)))
 
 returns-4 : tie.Need-returns-4
 returns-4 c =
     let a = c .before .before .before .before .before .before .before .before .before .args in
     let d = sym (c .before .before .before .before .before .before .bad-dims .ensures) ∙ c .before .before .before .before .before .if1 .left in
-    let b = sized (now (a .block)) (blockSize (a .dims)) (c .before .before .before .if2 .left ∙ c .before .before .before .before .size .ensures) in
-    let s = sized (now (a .code)) (codeSize (a .dims)) (c .before .if3 .left ∙ c .before .before .size2 .ensures) in
-    lane-range (a .dims) (now (a .block)) (a .lane) (now (a .code)) d (none-bad _ _ b s) (c .if4 .taken)
+    let b = sized (now (a .block)) (blockSize (a .dims)) (omega arith) in
+    let s = sized (now (a .code)) (codeSize (a .dims)) (omega arith) in
+    lane-range (a .dims) (now (a .block)) (a .lane) (now (a .code)) d (none-bad _ _ b s) (omega arith)
 
 lane-requires : tie.Need-lane-requires
 lane-requires c κs =
     let d = sym (c .before .before .before .before .before .before .before .bad-dims .ensures) ∙ c .before .before .before .before .before .before .if1 .left in
-    (few-dims mostDims _ d, omega arith, c .before .before .if3 .left ∙ c .before .before .before .size2 .ensures)
+    (few-dims mostDims _ d, omega arith, omega arith)
 
 same-length : tie.Need-same-length
 same-length c = search needs
@@ -64,12 +63,10 @@ returns-5 c =
     let a = c .before .before .before .before .before .before .before .before .before .before .before .before .before .args in
     let d = sym (c .before .before .before .before .before .before .before .before .before .before .bad-dims .ensures)
     ∙ c .before .before .before .before .before .before .before .before .before .if1 .left in
-    let b = sized (now (a .block)) (blockSize (a .dims)) (c .before .before .before .before .before .before .before .if2 .left
-    ∙ c .before .before .before .before .before .before .before .before .size .ensures) in
-    let s = sized (now (a .code)) (codeSize (a .dims)) (c .before .before .before .before .before .if3 .left
-    ∙ c .before .before .before .before .before .before .size2 .ensures) in
+    let b = sized (now (a .block)) (blockSize (a .dims)) (omega arith) in
+    let s = sized (now (a .code)) (codeSize (a .dims)) (omega arith) in
     ap (λ (s : List ℕ). (0, s)) (c .before .before .lane .ensures)
-    ∙ lane-accepted (a .dims) (now (a .block)) (a .lane) (now (a .code)) d (none-bad _ _ b s) (c .before .before .before .before .if4 .left)
+    ∙ lane-accepted (a .dims) (now (a .block)) (a .lane) (now (a .code)) d (none-bad _ _ b s) (omega arith)
 
 pub block-lane-spec : {M : Type 1} → statement M
 block-lane-spec =

@@ -1,8 +1,9 @@
 -- `block::block_pack` meets its contract. Assumes nothing.
-use mathlib.Core.Path.{_≡_, sym, ap, _∙_}
+use mathlib.Core.Path.{sym, ap, _∙_}
 use Prim.Native.Nat.{ℕ, _*_}
 use mathlib.Core.List.{List}
 use denote.Ref.{now}
+use native.Mathlib.Omega.{arith}
 use Rattle.words.specs.Limits.{mostDims}
 use Rattle.words.proofs.RefusalLaws.{few-dims, sized, unsized, first-bad, second-bad, none-bad}
 use Rattle.code.specs.Code.{codeSize}
@@ -11,7 +12,6 @@ use Rattle.block.proofs.CallLaws.{pack-dims, pack-length, pack-accepted
 use borrow.Author.Needs.{needs}
 use Rattle.block.proofs.block_pack.Statement.{statement}
 use Rattle.block.proofs.block_pack.Tie as tie
-use Rattle.code.proofs.parts.size.Reads as parts-size-reads′
 
 bad-dims-requires : tie.Need-bad-dims-requires
 bad-dims-requires c κs = search needs
@@ -30,9 +30,8 @@ returns-2 : tie.Need-returns-2
 returns-2 c =
     let a = c .before .before .before .before .before .before .args in
     let d = sym (c .before .before .before .bad-dims .ensures) ∙ c .before .before .if1 .left in
-    let s = ap (λ (x : ℕ). 32 * x) (c .before .size .ensures) in
     pack-length (a .dims) (now (a .codes)) (now (a .block)) d
-    (first-bad _ _ (unsized (now (a .codes)) (32 * codeSize (a .dims)) (λ e. c .if2 .taken (e ∙ sym s))))
+    (first-bad _ _ (unsized (now (a .codes)) (32 * codeSize (a .dims)) (λ e. omega arith)))
 
 size-requires-2 : tie.Need-size-requires-2
 size-requires-2 c κs = few-dims mostDims _ (sym (c .before .before .before .bad-dims .ensures) ∙ c .before .before .if1 .left)
@@ -41,16 +40,14 @@ returns-3 : tie.Need-returns-3
 returns-3 c =
     let a = c .before .before .before .before .before .before .before .before .args in
     let d = sym (c .before .before .before .before .before .bad-dims .ensures) ∙ c .before .before .before .before .if1 .left in
-    let s = sized (now (a .codes)) (32 * codeSize (a .dims))
-    (c .before .before .if2 .left ∙ ap (λ (x : ℕ). 32 * x) (c .before .before .before .size .ensures)) in
+    let s = sized (now (a .codes)) (32 * codeSize (a .dims)) (omega arith) in
     pack-length (a .dims) (now (a .codes)) (now (a .block)) d
-    (second-bad _ _ s (unsized (now (a .block)) (blockSize (a .dims)) (λ e. c .if3 .taken (e ∙ sym (c .before .size2 .ensures)))))
+    (second-bad _ _ s (unsized (now (a .block)) (blockSize (a .dims)) (λ e. omega arith)))
 
 pack-requires : tie.Need-pack-requires
 pack-requires c κs =
     let d = sym (c .before .before .before .before .before .before .bad-dims .ensures) ∙ c .before .before .before .before .before .if1 .left in
-    let s = ap (λ (x : ℕ). 32 * x) (c .before .before .before .before .size .ensures) in
-    (few-dims mostDims _ d, c .before .before .before .if2 .left ∙ s, c .before .if3 .left ∙ c .before .before .size2 .ensures)
+    (few-dims mostDims _ d, omega arith, omega arith)
 
 same-length : tie.Need-same-length
 same-length c = search needs
@@ -60,11 +57,8 @@ returns-4 c =
     let a = c .before .before .before .before .before .before .before .before .before .before .before .before .args in
     let d = sym (c .before .before .before .before .before .before .before .before .before .bad-dims .ensures)
     ∙ c .before .before .before .before .before .before .before .before .if1 .left in
-    let s = sized (now (a .codes)) (32 * codeSize (a .dims))
-    (c .before .before .before .before .before .before .if2 .left
-    ∙ ap (λ (x : ℕ). 32 * x) (c .before .before .before .before .before .before .before .size .ensures)) in
-    let b = sized (now (a .block)) (blockSize (a .dims)) (c .before .before .before .before .if3 .left
-    ∙ c .before .before .before .before .before .size2 .ensures) in
+    let s = sized (now (a .codes)) (32 * codeSize (a .dims)) (omega arith) in
+    let b = sized (now (a .block)) (blockSize (a .dims)) (omega arith) in
     ap (λ (s : List ℕ). (0, s)) (c .before .before .pack .ensures) ∙ pack-accepted (a .dims) (now (a .codes)) (now (a .block)) d (none-bad _ _ s b)
 
 pub block-pack-spec : {M : Type 1} → statement M

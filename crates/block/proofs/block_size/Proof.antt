@@ -24,7 +24,7 @@ returns-2 : tie.Need-returns-2
 returns-2 c =
     let a = c .before .before .before .before .args in
     let d = sym (c .before .before .bad-dims .ensures) ∙ c .before .if1 .left in
-    size-length (a .dims) (blockSize (a .dims)) (now (a .out)) d (unsized (now (a .out)) 4 (c .if2 .taken))
+    size-length (a .dims) (blockSize (a .dims)) (now (a .out)) d (unsized (now (a .out)) 4 (λ e. omega arith))
 
 size-requires : tie.Need-size-requires
 size-requires c κs = few-dims mostDims _ (sym (c .before .before .bad-dims .ensures) ∙ c .before .if1 .left)
@@ -47,7 +47,7 @@ returns-3 c =
     let a = c .before .before .before .before .before .before .before .before .before .args in
     let d = sym (c .before .before .before .before .before .before .before .bad-dims .ensures) ∙ c .before .before .before .before .before .before .if1 .left in
     ap (λ (s : List ℕ). (0, s)) (c .before .before .put-number .ensures ∙ ap (bytesOf 4) (c .before .before .before .before .size .ensures))
-    ∙ size-accepted (a .dims) (blockSize (a .dims)) (now (a .out)) d (sized (now (a .out)) 4 (c .before .before .before .before .before .if2 .left))
+    ∙ size-accepted (a .dims) (blockSize (a .dims)) (now (a .out)) d (sized (now (a .out)) 4 (omega arith))
 
 pub block-size-spec : {M : Type 1} → statement M
 block-size-spec =

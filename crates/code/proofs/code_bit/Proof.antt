@@ -29,15 +29,15 @@ returns-2 c =
     let a = c .before .before .before .before .before .before .args in
     let d = sym (c .before .before .before .bad-dims .ensures) ∙ c .before .before .if1 .left in
     bit-length (a .dims) (now (a .code)) (a .index) (now (a .out)) d
-    (first-bad _ _ (unsized (now (a .code)) (codeSize (a .dims)) (λ e. c .if2 .taken (e ∙ sym (c .before .size .ensures)))))
+    (first-bad _ _ (unsized (now (a .code)) (codeSize (a .dims)) (λ e. omega arith)))
 
 returns-3 : tie.Need-returns-3
 returns-3 c =
     let a = c .before .before .before .before .before .before .before .args in
     let d = sym (c .before .before .before .before .bad-dims .ensures) ∙ c .before .before .before .if1 .left in
     bit-length (a .dims) (now (a .code)) (a .index) (now (a .out)) d
-    (second-bad _ _ (sized (now (a .code)) (codeSize (a .dims)) (c .before .if2 .left ∙ c .before .before .size .ensures))
-    (unsized (now (a .out)) 4 (c .if3 .taken)))
+    (second-bad _ _ (sized (now (a .code)) (codeSize (a .dims)) (omega arith))
+    (unsized (now (a .out)) 4 (λ e. omega arith)))
 
 returns-4 : tie.Need-returns-4
 returns-4 c =
@@ -45,7 +45,7 @@ returns-4 c =
     let d = sym (c .before .before .before .before .before .bad-dims .ensures) ∙ c .before .before .before .before .if1 .left in
     let l = c .before .before .if2 .left ∙ c .before .before .before .size .ensures in
     bit-range (a .dims) (now (a .code)) (a .index) (now (a .out)) d
-    (none-bad _ _ (sized (now (a .code)) (codeSize (a .dims)) l) (sized (now (a .out)) 4 (c .before .if3 .left))) (c .if4 .taken)
+    (none-bad _ _ (sized (now (a .code)) (codeSize (a .dims)) (omega arith)) (sized (now (a .out)) 4 (omega arith))) (omega arith)
 
 bit-requires : tie.Need-bit-requires
 bit-requires c κs = omega (arith, c .before .before .before .if2 .left, c .before .before .before .before .size .ensures)
@@ -65,8 +65,8 @@ returns-5 c =
     ∙ c .before .before .before .before .before .before .before .before .size .ensures in
     ap (λ (s : List ℕ). (0, s)) (c .before .before .put-number .ensures ∙ ap (bytesOf 4) (c .before .before .before .bit .ensures))
     ∙ bit-accepted (a .dims) (now (a .code)) (a .index) (now (a .out)) d
-    (none-bad _ _ (sized (now (a .code)) (codeSize (a .dims)) l) (sized (now (a .out)) 4 (c .before .before .before .before .before .before .if3 .left)))
-    (c .before .before .before .before .before .if4 .left)
+    (none-bad _ _ (sized (now (a .code)) (codeSize (a .dims)) (omega arith)) (sized (now (a .out)) 4 (omega arith)))
+    (omega arith)
 
 pub code-bit-spec : {M : Type 1} → statement M
 code-bit-spec =

@@ -25,7 +25,7 @@ returns-2 c =
     let a = c .before .before .before .before .before .before .args in
     let d = sym (c .before .before .bad-dims .ensures) ∙ c .before .if1 .left in
     encode-length (a .dims) (now (a .factors)) (now (a .vector)) (now (a .code)) d
-    (first-bad _ _ (first-bad _ _ (unsized (now (a .factors)) 16 (c .if2 .taken))))
+    (first-bad _ _ (first-bad _ _ (unsized (now (a .factors)) 16 (λ e. omega arith))))
 
 mul-if3 : tie.Need-mul-if3
 mul-if3 c = search needs
@@ -34,9 +34,9 @@ returns-3 : tie.Need-returns-3
 returns-3 c =
     let a = c .before .before .before .before .before .before .before .args in
     let d = sym (c .before .before .before .bad-dims .ensures) ∙ c .before .before .if1 .left in
-    let f = sized (now (a .factors)) 16 (c .before .if2 .left) in
+    let f = sized (now (a .factors)) 16 (omega arith) in
     encode-length (a .dims) (now (a .factors)) (now (a .vector)) (now (a .code)) d
-    (first-bad _ _ (second-bad _ _ f (unsized (now (a .vector)) (4 * a .dims) (c .if3 .taken))))
+    (first-bad _ _ (second-bad _ _ f (unsized (now (a .vector)) (4 * a .dims) (λ e. omega arith))))
 
 size-requires : tie.Need-size-requires
 size-requires c κs = few-dims mostDims _ (sym (c .before .before .before .bad-dims .ensures) ∙ c .before .before .if1 .left)
@@ -45,10 +45,10 @@ returns-4 : tie.Need-returns-4
 returns-4 c =
     let a = c .before .before .before .before .before .before .before .before .before .args in
     let d = sym (c .before .before .before .before .before .bad-dims .ensures) ∙ c .before .before .before .before .if1 .left in
-    let f = sized (now (a .factors)) 16 (c .before .before .before .if2 .left) in
-    let v = sized (now (a .vector)) (4 * a .dims) (c .before .before .if3 .left) in
+    let f = sized (now (a .factors)) 16 (omega arith) in
+    let v = sized (now (a .vector)) (4 * a .dims) (omega arith) in
     encode-length (a .dims) (now (a .factors)) (now (a .vector)) (now (a .code)) d
-    (second-bad _ _ (none-bad _ _ f v) (unsized (now (a .code)) (codeSize (a .dims)) (λ e. c .if4 .taken (e ∙ sym (c .before .size .ensures)))))
+    (second-bad _ _ (none-bad _ _ f v) (unsized (now (a .code)) (codeSize (a .dims)) (λ e. omega arith)))
 
 any-missing-requires : tie.Need-any-missing-requires
 any-missing-requires c κs =
@@ -59,9 +59,9 @@ returns-5 : tie.Need-returns-5
 returns-5 c =
     let a = c .before .before .before .before .before .before .before .before .before .before .before .args in
     let d = sym (c .before .before .before .before .before .before .before .bad-dims .ensures) ∙ c .before .before .before .before .before .before .if1 .left in
-    let f = sized (now (a .factors)) 16 (c .before .before .before .before .before .if2 .left) in
-    let v = sized (now (a .vector)) (4 * a .dims) (c .before .before .before .before .if3 .left) in
-    let s = sized (now (a .code)) (codeSize (a .dims)) (c .before .before .if4 .left ∙ c .before .before .before .size .ensures) in
+    let f = sized (now (a .factors)) 16 (omega arith) in
+    let v = sized (now (a .vector)) (4 * a .dims) (omega arith) in
+    let s = sized (now (a .code)) (codeSize (a .dims)) (omega arith) in
     encode-missing (a .dims) (now (a .factors)) (now (a .vector)) (now (a .code)) d
     (none-bad _ _ (none-bad _ _ f v) s) (sym (c .before .any-missing .ensures) ∙ c .if5 .taken)
 
@@ -69,7 +69,7 @@ encode-requires : tie.Need-encode-requires
 encode-requires c κs =
     let d = sym (c .before .before .before .before .before .before .before .before .bad-dims .ensures)
     ∙ c .before .before .before .before .before .before .before .if1 .left in
-    (few-dims mostDims _ d, omega arith, c .before .before .before .if4 .left ∙ c .before .before .before .before .size .ensures)
+    (few-dims mostDims _ d, omega arith, omega arith)
 
 same-length : tie.Need-same-length
 same-length c = search needs
@@ -79,10 +79,9 @@ returns-6 c =
     let a = c .before .before .before .before .before .before .before .before .before .before .before .before .before .before .before .args in
     let d = sym (c .before .before .before .before .before .before .before .before .before .before .before .bad-dims .ensures)
     ∙ c .before .before .before .before .before .before .before .before .before .before .if1 .left in
-    let f = sized (now (a .factors)) 16 (c .before .before .before .before .before .before .before .before .before .if2 .left) in
-    let v = sized (now (a .vector)) (4 * a .dims) (c .before .before .before .before .before .before .before .before .if3 .left) in
-    let s = sized (now (a .code)) (codeSize (a .dims)) (c .before .before .before .before .before .before .if4 .left
-    ∙ c .before .before .before .before .before .before .before .size .ensures) in
+    let f = sized (now (a .factors)) 16 (omega arith) in
+    let v = sized (now (a .vector)) (4 * a .dims) (omega arith) in
+    let s = sized (now (a .code)) (codeSize (a .dims)) (omega arith) in
     ap (λ (s : List ℕ). (0, s)) (c .before .before .encode .ensures)
     ∙ encode-accepted (a .dims) (now (a .factors)) (now (a .vector)) (now (a .code)) d
     (none-bad _ _ (none-bad _ _ f v) s) (sym (c .before .before .before .before .before .any-missing .ensures) ∙ c .before .before .before .before .if5 .left)

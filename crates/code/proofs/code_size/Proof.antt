@@ -3,6 +3,7 @@ use mathlib.Core.Path.{sym, ap, _∙_}
 use Prim.Native.Nat.{ℕ}
 use mathlib.Core.List.{List}
 use denote.Ref.{now}
+use native.Mathlib.Omega.{arith}
 use Rattle.words.specs.Bytes.{bytesOf}
 use Rattle.words.specs.Limits.{mostDims}
 use Rattle.words.proofs.RefusalLaws.{few-dims, sized, unsized}
@@ -23,7 +24,7 @@ returns-2 : tie.Need-returns-2
 returns-2 c =
     let a = c .before .before .before .before .args in
     let d = sym (c .before .before .bad-dims .ensures) ∙ c .before .if1 .left in
-    size-length (a .dims) (codeSize (a .dims)) (now (a .out)) d (unsized (now (a .out)) 4 (c .if2 .taken))
+    size-length (a .dims) (codeSize (a .dims)) (now (a .out)) d (unsized (now (a .out)) 4 (λ e. omega arith))
 
 size-requires : tie.Need-size-requires
 size-requires c κs = few-dims mostDims _ (sym (c .before .before .bad-dims .ensures) ∙ c .before .if1 .left)
@@ -42,7 +43,7 @@ returns-3 c =
     let a = c .before .before .before .before .before .before .before .before .before .args in
     let d = sym (c .before .before .before .before .before .before .before .bad-dims .ensures) ∙ c .before .before .before .before .before .before .if1 .left in
     ap (λ (s : List ℕ). (0, s)) (c .before .before .put-number .ensures ∙ ap (bytesOf 4) (c .before .before .before .before .size .ensures))
-    ∙ size-accepted (a .dims) (codeSize (a .dims)) (now (a .out)) d (sized (now (a .out)) 4 (c .before .before .before .before .before .if2 .left))
+    ∙ size-accepted (a .dims) (codeSize (a .dims)) (now (a .out)) d (sized (now (a .out)) 4 (omega arith))
 
 pub code-size-spec : {M : Type 1} → statement M
 code-size-spec =

@@ -33,9 +33,14 @@ add-missing-2 c = search needs
 returns : tie.Need-returns
 unfolding lacks
 returns c =
-    let waiting = c .before .before .before .before .before .least-of .ensures ∙ ap (lesser _) (c .before .before .before .before .before .before .key-if .ensures) in
-    let asked = c .before .before .before .least-of2 .ensures ∙ ap (lesser _) (c .before .before .before .before .key-if2 .ensures) in
-    (omega (arith, c .before .before .nan .ensures .0, c .nan-if .ensures .0), (waiting, asked))
+    let key = c .before .before .before .before .before .before .key-if .ensures in
+    let least = c .before .before .before .before .before .least-of .ensures in
+    let key2 = c .before .before .before .before .key-if2 .ensures in
+    let least2 = c .before .before .before .least-of2 .ensures in
+    let nan = c .before .before .nan .ensures in
+    let waiting = least ∙ ap (lesser _) key in
+    let asked = least2 ∙ ap (lesser _) key2 in
+    (omega (arith, nan .0, c .nan-if .ensures .0), (waiting, asked))
 
 pub one-more-spec : {M : Type 1} → statement M
 one-more-spec =

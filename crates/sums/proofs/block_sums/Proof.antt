@@ -29,14 +29,21 @@ size-requires c κs = few-dims _ _ (sym (c .before .before .bad-dims .ensures) �
 returns-3 : tie.Need-returns-3
 unfolding blockSumsAnswer
 returns-3 c =
+    let c3 = c .before .before .before in
+    let c4 = c3 .before in
     refuses _ 2 _ _
-    (other-bad _ _ _ (sym (c .before .before .before .before .bad-dims .ensures) ∙ c .before .before .before .if1 .left) (sized _ _ (c .before .before .if2 .left)) (first-bad _ _ (unsized _ _ (λ e. c .if3 .taken (e ∙ sym (c .before .size .ensures))))))
+    (other-bad _ _ _ (sym (c4 .bad-dims .ensures) ∙ c3 .if1 .left) (sized _ _ (c .before .before .if2 .left))
+    (first-bad _ _ (unsized _ _ (λ e. c .if3 .taken (e ∙ sym (c .before .size .ensures))))))
 
 returns-4 : tie.Need-returns-4
 unfolding blockSumsAnswer
 returns-4 c =
+    let c3 = c .before .before .before in
+    let c4 = c3 .before in
+    let c5 = c4 .before in
     refuses _ 2 _ _
-    (other-bad _ _ _ (sym (c .before .before .before .before .before .bad-dims .ensures) ∙ c .before .before .before .before .if1 .left) (sized _ _ (c .before .before .before .if2 .left)) (second-bad _ _ (sized _ _ (c .before .if3 .left ∙ c .before .before .size .ensures)) (unsized _ _ (c .if4 .taken))))
+    (other-bad _ _ _ (sym (c5 .bad-dims .ensures) ∙ c4 .if1 .left) (sized _ _ (c3 .if2 .left))
+    (second-bad _ _ (sized _ _ (c .before .if3 .left ∙ c .before .before .size .ensures)) (unsized _ _ (c .if4 .taken))))
 
 above-top-requires : tie.Need-above-top-requires
 above-top-requires c κs = search needs
@@ -44,18 +51,29 @@ above-top-requires c κs = search needs
 returns-5 : tie.Need-returns-5
 unfolding blockSumsAnswer
 returns-5 c =
-    let others = none-bad _ _ (sized _ _ (c .before .before .before .if3 .left ∙ c .before .before .before .before .size .ensures)) (sized _ _ (c .before .before .if4 .left)) in
-    refuses _ 4 _ _ (code-bad _ _ _ (sym (c .before .before .before .before .before .before .before .bad-dims .ensures) ∙ c .before .before .before .before .before .before .if1 .left) (sized _ _ (c .before .before .before .before .before .if2 .left)) others (sym (c .before .above-top .ensures) ∙ c .if5 .taken))
+    let c3 = c .before .before .before in
+    let c4 = c3 .before in
+    let c5 = c4 .before in
+    let c6 = c5 .before in
+    let c7 = c6 .before in
+    let others = none-bad _ _ (sized _ _ (c3 .if3 .left ∙ c4 .size .ensures)) (sized _ _ (c .before .before .if4 .left)) in
+    refuses _ 4 _ _ (code-bad _ _ _ (sym (c7 .bad-dims .ensures) ∙ c6 .if1 .left) (sized _ _ (c5 .if2 .left)) others
+    (sym (c .before .above-top .ensures) ∙ c .if5 .taken))
 
 slice-aggregate-block-sums : tie.Need-slice-aggregate-block-sums
 slice-aggregate-block-sums c = search needs
 
 block-sums-requires : tie.Need-block-sums-requires
-block-sums-requires c κs = (
-  judged _ _ (sym (c .before .before .before .before .before .before .before .before .bad-dims .ensures) ∙ c .before .before .before .before .before .before .before .if1 .left) (c .before .before .before .before .before .before .if2 .left) (sym (c .before .before .above-top .ensures) ∙ c .before .if5 .left),
-  c .before .before .before .before .if3 .left ∙ c .before .before .before .before .before .size .ensures ∙ ap blockSize (sym (c .before .before .before .before .before .before .if2 .left)),
-  omega (arith, few-dims _ _ (sym (c .before .before .before .before .before .before .before .before .bad-dims .ensures) ∙ c .before .before .before .before .before .before .before .if1 .left), c .before .before .before .before .before .before .if2 .left, length-replicate {A = ℕ} 69952 0),
-)
+block-sums-requires c κs =
+    let c4 = c .before .before .before .before in
+    let c5 = c4 .before in
+    let c6 = c5 .before in
+    let c7 = c6 .before in
+    let c8 = c7 .before in (
+      judged _ _ (sym (c8 .bad-dims .ensures) ∙ c7 .if1 .left) (c6 .if2 .left) (sym (c .before .before .above-top .ensures) ∙ c .before .if5 .left),
+      c4 .if3 .left ∙ c5 .size .ensures ∙ ap blockSize (sym (c6 .if2 .left)),
+      omega (arith, few-dims _ _ (sym (c8 .bad-dims .ensures) ∙ c7 .if1 .left), c6 .if2 .left, length-replicate {A = ℕ} 69952 0),
+    )
 
 slice-aggregate-put-sums : tie.Need-slice-aggregate-put-sums
 slice-aggregate-put-sums c = search needs
@@ -69,9 +87,19 @@ same-length c = search needs
 returns-6 : tie.Need-returns-6
 unfolding blockSumsAnswer
 returns-6 c =
-    let others = none-bad _ _ (sized _ _ (c .before .before .before .before .before .before .before .before .before .before .before .if3 .left ∙ c .before .before .before .before .before .before .before .before .before .before .before .before .size .ensures)) (sized _ _ (c .before .before .before .before .before .before .before .before .before .before .if4 .left)) in
-    accepts _ _ _ _ (all-good _ _ _ (sym (c .before .before .before .before .before .before .before .before .before .before .before .before .before .before .before .bad-dims .ensures) ∙ c .before .before .before .before .before .before .before .before .before .before .before .before .before .before .if1 .left) (sized _ _ (c .before .before .before .before .before .before .before .before .before .before .before .before .before .if2 .left)) others (sym (c .before .before .before .before .before .before .before .before .before .above-top .ensures) ∙ c .before .before .before .before .before .before .before .before .if5 .left))
-    (c .before .before .put-sums .ensures ∙ words-ext 32 _ _ (c .before .before .before .before .before .before .block-sums .ensures .sums .each))
+    let c6 = c .before .before .before .before .before .before in
+    let c8 = c6 .before .before in
+    let c9 = c8 .before in
+    let c10 = c9 .before in
+    let c11 = c10 .before in
+    let c12 = c11 .before in
+    let c13 = c12 .before in
+    let c14 = c13 .before in
+    let c15 = c14 .before in
+    let others = none-bad _ _ (sized _ _ (c11 .if3 .left ∙ c12 .size .ensures)) (sized _ _ (c10 .if4 .left)) in
+    accepts _ _ _ _ (all-good _ _ _ (sym (c15 .bad-dims .ensures) ∙ c14 .if1 .left) (sized _ _ (c13 .if2 .left)) others
+    (sym (c9 .above-top .ensures) ∙ c8 .if5 .left))
+    (c .before .before .put-sums .ensures ∙ words-ext 32 _ _ (c6 .block-sums .ensures .sums .each))
 
 pub block-sums-spec : {M : Type 1} → statement M
 block-sums-spec =

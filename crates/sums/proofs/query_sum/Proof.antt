@@ -21,7 +21,10 @@ returns-2 c = refuses _ 2 _ _ (query-bad _ _ _ (sym (c .before .before .bad-dims
 
 returns-3 : tie.Need-returns-3
 unfolding querySumAnswer
-returns-3 c = refuses _ 2 _ _ (other-bad _ _ _ (sym (c .before .before .before .bad-dims .ensures) ∙ c .before .before .if1 .left) (sized _ _ (c .before .if2 .left)) (unsized _ _ (c .if3 .taken)))
+returns-3 c =
+    let c3 = c .before .before .before in
+    refuses _ 2 _ _ (other-bad _ _ _ (sym (c3 .bad-dims .ensures) ∙ c .before .before .if1 .left) (sized _ _ (c .before .if2 .left))
+    (unsized _ _ (c .if3 .taken)))
 
 above-top-requires : tie.Need-above-top-requires
 above-top-requires c κs = search needs
@@ -29,11 +32,19 @@ above-top-requires c κs = search needs
 returns-4 : tie.Need-returns-4
 unfolding querySumAnswer
 returns-4 c =
+    let c3 = c .before .before .before in
+    let c4 = c3 .before in
+    let c5 = c4 .before in
     refuses _ 4 _ _
-    (code-bad _ _ _ (sym (c .before .before .before .before .before .bad-dims .ensures) ∙ c .before .before .before .before .if1 .left) (sized _ _ (c .before .before .before .if2 .left)) (sized _ _ (c .before .before .if3 .left)) (sym (c .before .above-top .ensures) ∙ c .if4 .taken))
+    (code-bad _ _ _ (sym (c5 .bad-dims .ensures) ∙ c4 .if1 .left) (sized _ _ (c3 .if2 .left)) (sized _ _ (c .before .before .if3 .left))
+    (sym (c .before .above-top .ensures) ∙ c .if4 .taken))
 
 total-requires : tie.Need-total-requires
-total-requires c κs = judged _ _ (sym (c .before .before .before .before .before .before .bad-dims .ensures) ∙ c .before .before .before .before .before .if1 .left) (c .before .before .before .before .if2 .left) (sym (c .before .before .above-top .ensures) ∙ c .before .if4 .left)
+total-requires c κs =
+    let c4 = c .before .before .before .before in
+    let c5 = c4 .before in
+    let c6 = c5 .before in
+    judged _ _ (sym (c6 .bad-dims .ensures) ∙ c5 .if1 .left) (c4 .if2 .left) (sym (c .before .before .above-top .ensures) ∙ c .before .if4 .left)
 
 put-number-requires : tie.Need-put-number-requires
 put-number-requires c κs = search needs
@@ -44,9 +55,17 @@ same-length c = search needs
 returns-5 : tie.Need-returns-5
 unfolding querySumAnswer
 returns-5 c =
+    let c3 = c .before .before .before in
+    let c5 = c3 .before .before in
+    let c6 = c5 .before in
+    let c7 = c6 .before in
+    let c8 = c7 .before in
+    let c9 = c8 .before in
+    let c10 = c9 .before in
     accepts _ _ _ _
-    (all-good _ _ _ (sym (c .before .before .before .before .before .before .before .before .before .before .bad-dims .ensures) ∙ c .before .before .before .before .before .before .before .before .before .if1 .left) (sized _ _ (c .before .before .before .before .before .before .before .before .if2 .left)) (sized _ _ (c .before .before .before .before .before .before .before .if3 .left)) (sym (c .before .before .before .before .before .before .above-top .ensures) ∙ c .before .before .before .before .before .if4 .left))
-    (c .before .before .put-number .ensures ∙ ap (bytesOf 4) (c .before .before .before .total .ensures .0))
+    (all-good _ _ _ (sym (c10 .bad-dims .ensures) ∙ c9 .if1 .left) (sized _ _ (c8 .if2 .left)) (sized _ _ (c7 .if3 .left))
+    (sym (c6 .above-top .ensures) ∙ c5 .if4 .left))
+    (c .before .before .put-number .ensures ∙ ap (bytesOf 4) (c3 .total .ensures .0))
 
 pub query-sum-spec : {M : Type 1} → statement M
 query-sum-spec =

@@ -83,7 +83,8 @@ fn nibble(groups: &[u8], k: usize, g: usize) -> usize
 
 // Adds what the lanes pick in group g.
 fn scan_group(t: &[u8], groups: &[u8], g: usize, sums: &mut [u32])
-    requires { ⌜ (g < blockGroups mostDims) × (16 * g + 16 ≤ length (now t)) × (16 * g + 16 ≤ length (now groups)) × Scanned (now t) (now groups) g (now sums) ⌝ }
+    requires { ⌜ (g < blockGroups mostDims) × (16 * g + 16 ≤ length (now t)) × (16 * g + 16 ≤ length (now groups)) ⌝ }
+    requires { ⌜ Scanned (now t) (now groups) g (now sums) ⌝ }
     ensures { λ _. ⌜ Scanned (now (t .entry)) (now (groups .entry)) (g + 1) (now (sums .exit)) ⌝ }
 {
     let mut k = 0usize;

@@ -63,7 +63,7 @@ same-length-2 c = search needs
 returns-3 : tie.Need-returns-3
 returns-3 c =
     let e : c .before .before .before .before .before .before .before .before .before .before .before .args .layout ≡ Blocks = c .before .before .before .before .enum-told2 .given .1 in
-    (rw (e, ← c .before .before .before .before .before .before .ready .ensures .1) (wanted _ _ _ _ _ _ _ _ (omega arith) (omega (arith, c .before .before .before .before .before .before .before .before .before .before .before .pre .2, c .before .before .before .before .before .before .before .before .before .before .before .pre .1 .places)) (c .before .before .fill-blocks .ensures)), omega arith)
+    (rw (e, ← c .before .before .before .before .before .before .ready .ensures .1) (wanted _ _ _ _ _ _ _ _ (omega arith) (c .before .before .fill-blocks .ensures)), omega arith)
 
 pub fill-bounds-spec : {M : Type 1} → statement M
 fill-bounds-spec =

@@ -74,9 +74,11 @@ fill-bounds-requires : tie.Need-fill-bounds-requires
 fill-bounds-requires c κs =
     let k = known _ _ _ _ _ _ _ _ _ _ _ _ _ (accepts (c .before .before .before .before .before .before)) in
     let i = inside _ _ _ _ (within (c .before .before .before .before)) in
-    let n = c .before .before .before .range-len .ensures in
-    (k .codes, record { inside = rw n (i .0); few = k .few; sized = rw (c .before .before .layout-of .ensures) (k .sized); places = omega (arith, n, i .1, k .places) },
-    length-replicate {A = ℕ} 16512 0)
+    let n = c .before .before .before .range-len .ensures in (
+      k .codes,
+      record { inside = rw n (i .0); few = k .few; sized = rw (c .before .before .layout-of .ensures) (k .sized); places = omega (arith, n, i .1, k .places) },
+      length-replicate {A = ℕ} 16512 0,
+    )
 
 slice-aggregate-part : tie.Need-slice-aggregate-part
 slice-aggregate-part c = search needs
@@ -110,9 +112,16 @@ put-lists-requires : tie.Need-put-lists-requires
 put-lists-requires c κs =
     let k = known _ _ _ _ _ _ _ _ _ _ _ _ _ (accepts (c .before .before .before .before .before .before .before .before .before .before .before .before .before .before .before .before)) in
     let i = inside _ _ _ _ (within (c .before .before .before .before .before .before .before .before .before .before .before .before .before .before)) in
-    let n = c .before .before .before .before .before .before .before .before .before .before .before .before .before .range-len .ensures in
-    ((omega (arith, n, c .before .before .before .before .before .before .before .before .before .before .before .before .before .before .before .before .before .before .before .before .before .before .before .before .before .fits .start, c .before .before .before .before .before .before .before .before .before .before .before .before .before .before .before .before .before .before .before .before .before .before .before .before .before .fits .end), omega (arith, n, i .1, k .places), c .before .before .before .before .before .before .part .ensures .1, omega (arith, n, i .1, k .ids-are),
-    omega (arith, n, i .1, k .bounds-are)), (omega (arith, n, i .1), k .count-is))
+    let n = c .before .before .before .before .before .before .before .before .before .before .before .before .before .range-len .ensures in (
+      (
+        omega (arith, n, c .before .before .before .before .before .before .before .before .before .before .before .before .before .before .before .before .before .before .before .before .before .before .before .before .before .fits .start, c .before .before .before .before .before .before .before .before .before .before .before .before .before .before .before .before .before .before .before .before .before .before .before .before .before .fits .end),
+        omega (arith, n, i .1, k .places),
+        c .before .before .before .before .before .before .part .ensures .1,
+        omega (arith, n, i .1, k .ids-are),
+        omega (arith, n, i .1, k .bounds-are),
+      ),
+      (omega (arith, n, i .1), k .count-is),
+    )
 
 same-length : tie.Need-same-length
 same-length c = search needs

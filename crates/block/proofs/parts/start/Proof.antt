@@ -1,5 +1,5 @@
 -- `block::parts::start` meets its contract. Assumes nothing.
-use Prim.Native.Nat.{ℕ, _+_, _*_, _≤_}
+use Prim.Native.Nat.{ℕ, _+_, _*_, _≤_, _<_}
 use mathlib.Core.Path.{refl}
 use native.Mathlib.Omega.{arith}
 use native.Mathlib.Nat.{mul-le-mul, mul-le-mul-left}
@@ -9,26 +9,26 @@ use borrow.Author.Needs.{needs}
 use Rattle.block.proofs.parts.start.Statement.{statement}
 use Rattle.block.proofs.parts.start.Tie as tie
 
-bound : (dims k : ℕ) → dims ≤ mostDims → k ≤ 31 → codeSize dims * k ≤ codeSize mostDims * 31
-bound dims k hd hk = let size : codeSize dims ≤ codeSize mostDims = omega arith in mul-le-mul size hk
+bound : (dims k : ℕ) → dims ≤ mostDims → k < 32 → (codeSize dims * k + codeSize dims ≤ 32 * codeSize dims) × (codeSize dims * k ≤ codeSize mostDims * 31)
+bound dims k hd hk =
+    let size : codeSize dims ≤ codeSize mostDims = omega arith in
+    let more : k + 1 ≤ 32 = omega arith in
+    let last : k ≤ 31 = omega arith in
+    (omega (arith, mul-le-mul-left (codeSize dims) more), mul-le-mul size last)
 
-add-result : tie.Need-add-result
-add-result c = search needs
+size-requires : tie.Need-size-requires
+size-requires c κs = search needs
 
 mul-result : tie.Need-mul-result
-mul-result c = search needs
-
-add-result-2 : tie.Need-add-result-2
-add-result-2 c = search needs
-
-mul-result-2 : tie.Need-mul-result-2
-mul-result-2 c = omega (arith, bound (c .args .dims) (c .args .k) (c .pre .0) (omega arith))
+mul-result c =
+    let a = c .before .args in
+    rw (c .size .ensures) (omega (arith, bound (a .dims) (a .k) (c .before .pre .0) (c .before .pre .1) .1))
 
 returns : tie.Need-returns
 returns c =
-    let k = c .args .k in
-    let more : k + 1 ≤ 32 = omega arith in
-    (refl, omega (arith, mul-le-mul-left (codeSize (c .args .dims)) more), omega (arith, bound (c .args .dims) k (c .pre .0) (omega arith)))
+    let a = c .before .args in
+    let b = bound (a .dims) (a .k) (c .before .pre .0) (c .before .pre .1) in
+    rw (c .size .ensures) (refl, b .0, omega (arith, b .1))
 
 pub start-spec : {M : Type 1} → statement M
-start-spec = tie.close (tie.spec add-result mul-result add-result-2 mul-result-2 returns)
+start-spec = tie.close (tie.spec size-requires mul-result returns)

@@ -48,6 +48,7 @@ use denote.Exit.{yes}
 use Rattle.code.specs.Reader.{factorsAt, wordsAt}
 use Rattle.code.specs.declared.parts.reader.Code.{Code}
 use Rattle.code.specs.declared.parts.reader.Factors.{Factors}
+use Rattle.code.proofs.ReaderWalk.{val, Own, lend, lend-again}
 use Rattle.code.proofs.parts.reader.Code as T
 use Rattle.code.proofs.parts.reader.Code.Laws as T′
 use Rattle.code.proofs.parts.reader.Factors as F
@@ -81,12 +82,8 @@ module _ {M : Type 1} (𝓤 : URA M) (H : Heap 𝓤) (A : Atoms 𝓤) (W : Given
   abbrev α : NamedLft
   α = namedLft 1 0 tt (κ, tt)
 
-  -- the machine value that s has
-  abbrev v : Val
-  v = sliceVal (s .ptr) (length (s .now))
-
   abbrev at : List Val × Unit {0}
-  at = (v ∷ [], tt)
+  at = (val s ∷ [], tt)
 
   -- that the four floats fit their type
   abbrev Fit : Factors → Type 0
@@ -100,9 +97,6 @@ module _ {M : Type 1} (𝓤 : URA M) (H : Heap 𝓤) (A : Atoms 𝓤) (W : Given
   abbrev Post : Val → SProp 𝓤
   Post = walkOf 𝓤 H A f.ended stayed (f.clauses 𝓤 H A mem run) .post (((κ, tt), (q, tt), tt, (s, tt), at), tt)
 
-  abbrev Own : Fml
-  Own = ShrSlice (named 0) κ u8 .own s (v ∷ [])
-
   -- ---- the two calls: what each is passed, what it asks, and what is known of its result
   abbrev to-rf : ReadFactors 𝓤 H A mem run .Ghost
   to-rf = (((κ, tt), (q, tt), tt, (s, tt), at), tt)
@@ -110,19 +104,13 @@ module _ {M : Type 1} (𝓤 : URA M) (H : Heap 𝓤) (A : Atoms 𝓤) (W : Given
   abbrev to-rw : ReadWords 𝓤 H A mem run .Ghost
   to-rw = (((κ, tt), (q, tt), tt, (s, tt), at), tt)
 
-  goes-rf : ent 𝓤 (onEntry 𝓤 H A f.signature (κ, tt) (q, tt) (s, tt) at) (sep 𝓤 (ReadFactors 𝓤 H A mem run .pre to-rf) (sem 𝓤 H A Own))
-  goes-rf =
-      qed W ((‵ (flft κ q) ⊛ ‵ ftrue) ∷ ‵ (owns (ShrSlice (named 0) κ u8 ∷ []) (s, tt) at) ∷ []) ∵
-      move ! (1 ∷ []) $ fsplit ! $ use1 W (‵ Own ⊛ ‵ Own) (shr-slice-copy 𝓤 H A W (named 0) κ u8 .twice s (v ∷ [])) $ split ! $
-      move ! (0 ∷ 2 ∷ []) $ fjoin ! $ move ! (2 ∷ 0 ∷ []) $ use2 W (raw (ReadFactors 𝓤 H A mem run .pre to-rf))
-      (qed W ((‵ (flft κ q) ⊛ ‵ ftrue) ∷ ‵ (owns (ShrSlice (named 0) κ u8 ∷ []) (s, tt) at) ∷ []) ∵ says ! long $ frame ! $ done !) $ frame ! $ done !
+  goes-rf : ent 𝓤 (onEntry 𝓤 H A f.signature (κ, tt) (q, tt) (s, tt) at) (sep 𝓤 (ReadFactors 𝓤 H A mem run .pre to-rf) (sem 𝓤 H A (Own κ s)))
+  goes-rf = lend 𝓤 H A W κ q s (ReadFactors 𝓤 H A mem run .pre to-rf)
+      (qed W ((‵ (flft κ q) ⊛ ‵ ftrue) ∷ ‵ (owns (ShrSlice (named 0) κ u8 ∷ []) (s, tt) at) ∷ []) ∵ says ! long $ frame ! $ done !)
 
-  goes-rw : ent 𝓤 (⋆ 𝓤 H A ((‵ (flft κ q) ⊛ ‵ ftrue) ∷ ‵ Own ∷ [])) (sep 𝓤 (ReadWords 𝓤 H A mem run .pre to-rw) (sem 𝓤 H A Own))
-  goes-rw =
-      qed W ((‵ (flft κ q) ⊛ ‵ ftrue) ∷ ‵ Own ∷ []) ∵
-      move ! (1 ∷ []) $ use1 W (‵ Own ⊛ ‵ Own) (shr-slice-copy 𝓤 H A W (named 0) κ u8 .twice s (v ∷ [])) $ split ! $ nothing ! $
-      move ! (1 ∷ 0 ∷ []) $ fjoin ! $ move ! (2 ∷ 0 ∷ []) $ use2 W (raw (ReadWords 𝓤 H A mem run .pre to-rw))
-      (qed W ((‵ (flft κ q) ⊛ ‵ ftrue) ∷ ‵ (owns (ShrSlice (named 0) κ u8 ∷ []) (s, tt) at) ∷ []) ∵ says ! long $ frame ! $ done !) $ frame ! $ done !
+  goes-rw : ent 𝓤 (⋆ 𝓤 H A ((‵ (flft κ q) ⊛ ‵ ftrue) ∷ ‵ (Own κ s) ∷ [])) (sep 𝓤 (ReadWords 𝓤 H A mem run .pre to-rw) (sem 𝓤 H A (Own κ s)))
+  goes-rw = lend-again 𝓤 H A W κ q s (ReadWords 𝓤 H A mem run .pre to-rw)
+      (qed W ((‵ (flft κ q) ⊛ ‵ ftrue) ∷ ‵ (owns (ShrSlice (named 0) κ u8 ∷ []) (s, tt) at) ∷ []) ∵ says ! long $ frame ! $ done !)
 
   rf-said : (r : Factors) → ent 𝓤 (ensured 𝓤 H A factors.ended (factors.clauses 𝓤 H A mem run) (κ, tt) (s, tt) tt r) (fact 𝓤 (r ≡ factorsAt (now s)))
   rf-said r = exE 𝓤 _ (λ ws. snd∗ 𝓤 (sem 𝓤 H A (lasts factors.ended (κ, tt) (s, tt) ws)) (fact 𝓤 (r ≡ factorsAt (now s))))
@@ -131,10 +119,10 @@ module _ {M : Type 1} (𝓤 : URA M) (H : Heap 𝓤) (A : Atoms 𝓤) (W : Given
   rw-said w = exE 𝓤 _ (λ ws. snd∗ 𝓤 (sem 𝓤 H A (lasts words.ended (κ, tt) (s, tt) ws)) (fact 𝓤 (now w ≡ wordsAt (now s))))
 
   exits : (r : Factors) (w : RefT (List ℕ)) → Fit r → r ≡ factorsAt (now s) → now w ≡ wordsAt (now s)
-      → ent 𝓤 (⋆ 𝓤 H A (‵ (ShrSlice (named 0) κ u8 .own w (sliceVal (w .ptr) (length (w .now)) ∷ [])) ∷ (‵ (flft κ q) ⊛ ‵ ftrue) ∷ ‵ Own ∷ []))
+      → ent 𝓤 (⋆ 𝓤 H A (‵ (ShrSlice (named 0) κ u8 .own w (val w ∷ [])) ∷ (‵ (flft κ q) ⊛ ‵ ftrue) ∷ ‵ (Own κ s) ∷ []))
       (Post (T′.lowered (made r w)))
   exits r w fit e e′ =
-      qed W (‵ (ShrSlice (named 0) κ u8 .own w (sliceVal (w .ptr) (length (w .now)) ∷ [])) ∷ (‵ (flft κ q) ⊛ ‵ ftrue) ∷ ‵ Own ∷ []) ∵
+      qed W (‵ (ShrSlice (named 0) κ u8 .own w (val w ∷ [])) ∷ (‵ (flft κ q) ⊛ ‵ ftrue) ∷ ‵ (Own κ s) ∷ []) ∵
       suffices ! _ (ends-at 𝓤 H A f.ended stayed (f.clauses 𝓤 H A mem run) W (((κ, tt), (q, tt), tt, (s, tt), at), tt) (T′.lowered (made r w)) (made r w)
       (tt, tt) (tt, tt)) $ says ! (e, e′) $
       move ! (1 ∷ []) $ frame ! $ nothing ! $ move ! (2 ∷ 0 ∷ []) $ fjoin ! $ frame ! $
@@ -148,12 +136,13 @@ module _ {M : Type 1} (𝓤 : URA M) (H : Heap 𝓤) (A : Atoms 𝓤) (W : Given
 
   module _ (C : Calls 𝓤 H) (Λ : Loops 𝓤 H) (fm : FmC 𝓤 H (W .laws) C) (known-rf : Triple 𝓤 (C #read-factors) (ReadFactors 𝓤 H A mem run))
       (known-rw : Triple 𝓤 (C #read-words) (ReadWords 𝓤 H A mem run)) where
-    walk : Is (ShrSlice (named 0) κ u8) s (v ∷ []) → ent 𝓤 (onEntry 𝓤 H A f.signature (κ, tt) (q, tt) (s, tt) at) (WpFn 𝓤 H C Λ code.function (v ∷ []) Post)
+    walk : Is (ShrSlice (named 0) κ u8) s (val s ∷ []) → ent 𝓤 (onEntry 𝓤 H A f.signature (κ, tt) (q, tt) (s, tt) at)
+        (WpFn 𝓤 H C Λ code.function (val s ∷ []) Post)
     walk p =
-        qed W (raw (onEntry 𝓤 H A f.signature (κ, tt) (q, tt) (s, tt) at) ∷ []) ∵ enter ! C Λ code.function (v ∷ []) _ $
+        qed W (raw (onEntry 𝓤 H A f.signature (κ, tt) (q, tt) (s, tt) at) ∷ []) ∵ enter ! C Λ code.function (val s ∷ []) _ $
         alloc1 ! (λ l₀. alloc1 ! (λ l₁. alloc1 ! (λ l₂. alloc1 !
-        (λ l₃. alloc0 ! $ params1 ! $ pass1 ! (init ! 4 refl (shr-slice-lawful 𝓤 H A W (named 0) κ u8 .typed s (v ∷ []) p .0)) $ pass0 ! $
-        move ! (8 ∷ []) $ use1 W (raw (ReadFactors 𝓤 H A mem run .pre to-rf) ⊛ ‵ Own) goes-rf $ split ! $
+        (λ l₃. alloc0 ! $ params1 ! $ pass1 ! (init ! 4 refl (shr-slice-lawful 𝓤 H A W (named 0) κ u8 .typed s (val s ∷ []) p .0)) $ pass0 ! $
+        move ! (8 ∷ []) $ use1 W (raw (ReadFactors 𝓤 H A mem run .pre to-rf) ⊛ ‵ (Own κ s)) goes-rf $ split ! $
         calls-at ! fm (ReadFactors 𝓤 H A mem run) known-rf to-rf (and-then ! (load ! (from ! (stop !)) (look ! 6 refl)) (no-more !)) (λ u.
         use1 W (later (some (λ (r : Factors). ((‵ (flft κ q) ⊛ ‵ ftrue) ⊛ ‵ (F.the-row .own r (u ∷ []))) ⊛ raw
         (ensured 𝓤 H A factors.ended (factors.clauses 𝓤 H A mem run) (κ, tt) (s, tt) tt r)))) (id⊢ 𝓤 _) $ await ! tt $ pick ! (λ r.
@@ -163,7 +152,7 @@ module _ {M : Type 1} (𝓤 : URA M) (H : Heap 𝓤) (A : Atoms 𝓤) (W : Given
         peeks ! F.the-row (Is F.the-row) (shows 𝓤 H A F.the-row) r (u ∷ []) (λ is.
         land ! (from ! (stop !)) (init ! 5 refl (LL.lawful F.the-type F′.the-laws 𝓤 H A W .typed r _ is .0)) $
         rewrite ! 5 (λ (w : Val). ‵ (fat fullShare F′.mir l₂ 0 w)) (ap only (LL.tells F.the-type F′.the-laws r _ is)) refl $ drop ! $
-        use2 W (raw (ReadWords 𝓤 H A mem run .pre to-rw) ⊛ ‵ Own) goes-rw $ split ! $
+        use2 W (raw (ReadWords 𝓤 H A mem run .pre to-rw) ⊛ ‵ (Own κ s)) goes-rw $ split ! $
         calls-at ! fm (ReadWords 𝓤 H A mem run) known-rw to-rw (and-then ! (load ! (from ! (stop !)) (look ! 6 refl)) (no-more !)) (λ u′.
         use1 W (later (some (λ (w : RefT (List ℕ)). ((‵ (flft κ q) ⊛ ‵ ftrue) ⊛ ‵ (ShrSlice (named 0) κ u8 .own w (u′ ∷ []))) ⊛ raw
         (ensured 𝓤 H A words.ended (words.clauses 𝓤 H A mem run) (κ, tt) (s, tt) tt w)))) (id⊢ 𝓤 _) $ await ! tt $ pick ! (λ w.

@@ -32,7 +32,9 @@ loop-less : tie.Need-loop-less Inv-loop μ-loop
 loop-less c = omega arith
 
 loop-again : tie.Need-loop-again Inv-loop μ-loop
-loop-again c = let l = c .before .before .before .before .before .loop in (omega arith, c .before .before .row .kept .1 .0 ∙ l .inv .1, λ i h. c .before .before .row .ensures i (omega arith))
+loop-again c =
+    let c5 = c .before .before .before .before .before in
+    let l = c5 .loop in (omega arith, c .before .before .row .kept .1 .0 ∙ l .inv .1, λ i h. c .before .before .row .ensures i (omega arith))
 
 same-length : tie.Need-same-length Inv-loop μ-loop
 same-length c = search needs

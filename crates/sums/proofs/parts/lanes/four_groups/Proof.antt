@@ -14,7 +14,8 @@ use Rattle.sums.proofs.parts.lanes.four_groups.Statement.{statement}
 use Rattle.sums.proofs.parts.lanes.four_groups.Tie as tie
 
 abbrev Inv-loop : tie.InvT-loop
-Inv-loop q t block g lo₀ hi₀ j₀ lo hi j = (j ≤ 16) × (length lo ≡ 16) × (length hi ≡ 16) × ((i : ℕ) → i < j → getD lo i 0 ≡ groupsSum q (laneNibble block i) g 4) × ((i : ℕ) → i < j → getD hi i 0 ≡ groupsSum q (laneNibble block (i + 16)) g 4)
+Inv-loop q t block g lo₀ hi₀ j₀ lo hi j = (j ≤ 16) × (length lo ≡ 16) × (length hi ≡ 16) ×
+    ((i : ℕ) → i < j → getD lo i 0 ≡ groupsSum q (laneNibble block i) g 4) × ((i : ℕ) → i < j → getD hi i 0 ≡ groupsSum q (laneNibble block (i + 16)) g 4)
 
 abbrev μ-loop : tie.MeasureT-loop
 μ-loop q t block g lo₀ hi₀ j₀ lo hi j = 16 - j
@@ -65,7 +66,10 @@ add-hi-3 : tie.Need-add-hi-3 Inv-loop μ-loop
 add-hi-3 c = search needs
 
 slice-write-hi : tie.Need-slice-write-hi Inv-loop μ-loop
-slice-write-hi c = omega (arith, c .before .before .before .before .before .before .before .before .before .before .before .before .before .loop .inv .0, c .before .before .before .before .before .before .before .before .before .before .before .before .before .loop .inv .2, c .before .before .before .before .before .before .before .before .before .before .before .before .loop-test)
+slice-write-hi c =
+    let c12 = c .before .before .before .before .before .before .before .before .before .before .before .before in
+    let c13 = c12 .before in
+    omega (arith, c13 .loop .inv .0, c13 .loop .inv .2, c12 .loop-test)
 
 add-j : tie.Need-add-j Inv-loop μ-loop
 add-j c = search needs
@@ -75,17 +79,25 @@ loop-less c = omega arith
 
 loop-again : tie.Need-loop-again Inv-loop μ-loop
 loop-again c =
-    let a = c .before .before .before .before .before .before .before .before .before .before .before .before .before .before .before .before .before .before .before .args in
-    let l = c .before .before .before .before .before .before .before .before .before .before .before .before .before .loop in
-    let g0 = c .before .before .before .before .before .before .before .before .before .before .before .group .ensures in
-    let g1 = c .before .before .before .before .before .before .before .before .before .before .group2 .ensures in
-    let g2 = c .before .before .before .before .before .before .before .before .before .group3 .ensures in
-    let g3 = c .before .before .before .before .before .before .before .before .group4 .ensures in (
+    let c8 = c .before .before .before .before .before .before .before .before in
+    let c9 = c8 .before in
+    let c10 = c9 .before in
+    let c11 = c10 .before in
+    let c13 = c11 .before .before in
+    let c19 = c13 .before .before .before .before .before .before in
+    let a = c19 .args in
+    let l = c13 .loop in
+    let g0 = c11 .group .ensures in
+    let g1 = c10 .group2 .ensures in
+    let g2 = c9 .group3 .ensures in
+    let g3 = c8 .group4 .ensures in (
       omega arith,
       simp length-set (l .inv .1),
       simp length-set (l .inv .2),
-      filled-more (λ i. groupsSum (a .q .now) (laneNibble (a .block .now) i) (a .g) 4) (l .lo) (l .j) _ (omega arith) (l .inv .3) (groups-four (a .q .now) (laneNibble (a .block .now) (l .j)) (a .g) (g0 .0 .0) (g1 .0 .0) (g2 .0 .0) (g3 .0 .0)),
-      filled-more (λ i. groupsSum (a .q .now) (laneNibble (a .block .now) (i + 16)) (a .g) 4) (l .hi) (l .j) _ (omega arith) (l .inv .4) (groups-four (a .q .now) (laneNibble (a .block .now) (l .j + 16)) (a .g) (g0 .1 .0) (g1 .1 .0) (g2 .1 .0) (g3 .1 .0)),
+      filled-more (λ i. groupsSum (a .q .now) (laneNibble (a .block .now) i) (a .g) 4) (l .lo) (l .j) _ (omega arith) (l .inv .3)
+          (groups-four (a .q .now) (laneNibble (a .block .now) (l .j)) (a .g) (g0 .0 .0) (g1 .0 .0) (g2 .0 .0) (g3 .0 .0)),
+      filled-more (λ i. groupsSum (a .q .now) (laneNibble (a .block .now) (i + 16)) (a .g) 4) (l .hi) (l .j) _ (omega arith) (l .inv .4)
+          (groups-four (a .q .now) (laneNibble (a .block .now) (l .j + 16)) (a .g) (g0 .1 .0) (g1 .1 .0) (g2 .1 .0) (g3 .1 .0)),
     )
 
 same-length : tie.Need-same-length Inv-loop μ-loop
@@ -96,9 +108,14 @@ same-length-2 c = omega arith
 
 returns : tie.Need-returns Inv-loop μ-loop
 returns c =
-    let a = c .before .before .before .before .before .before .before .args in
+    let c7 = c .before .before .before .before .before .before .before in
+    let a = c7 .args in
     let l = c .before .loop in (
-      record { long = l .inv .1; each = λ j h. l .inv .3 j (omega arith) ∙ ap (λ (k : ℕ). groupsSum (a .q .now) (laneNibble (a .block .now) k) (a .g) 4) (sym (add-zero j)) },
+      record {
+        long = l .inv .1;
+        each = λ j h. l .inv .3 j (omega arith) ∙ ap (λ (k : ℕ). groupsSum (a .q .now) (laneNibble (a .block .now) k) (a .g) 4)
+            (sym (add-zero j));
+      },
       record { long = l .inv .2; each = λ j h. l .inv .4 j (omega arith) },
     )
 

@@ -85,14 +85,24 @@ four-requires-2 c κs =
 
 returns : tie.Need-returns
 returns c =
-    let s = c .before .before .before .before .before .before .before .before .before .before in
+    let c6 = c .before .before .before .before .before .before in
+    let c9 = c6 .before .before .before in
+    let s = c9 .before in
     let a = s .args in
     let x = getD (a .block .now) (512 + 16 * a .g + a .j) 0 in
-    let byte : x < 256 = omega (arith, c .before .before .before .before .before .before .shared-slice-known4 .given (512 + 16 * a .g + a .j)) in
+    let byte : x < 256 = omega (arith, c6 .shared-slice-known4 .given (512 + 16 * a .g + a .j)) in
     let low : x % 16 * 16 / 16 ≡ x % 16 = omega arith in
     let is = group-of (a .q .now) (a .t .now) (s .pre .2 .wide) (a .g) (a .j) in (
-      (is _ _ (s .pre .1) (s .pre .0) (c .before .four .ensures .0) ∙ ap (groupSum (a .q .now) (a .g)) (low ∙ sym (nibble-low (a .block .now) (a .j) (a .g) (s .pre .0))), c .before .four .ensures .1),
-      (is _ _ (s .pre .1) (s .pre .0) (c .four2 .ensures .0) ∙ ap (groupSum (a .q .now) (a .g)) (sym (nibble-high (a .block .now) (a .j) (a .g) (s .pre .0) byte)), c .four2 .ensures .1),
+      (
+        is _ _ (s .pre .1) (s .pre .0) (c .before .four .ensures .0) ∙ ap (groupSum (a .q .now) (a .g))
+            (low ∙ sym (nibble-low (a .block .now) (a .j) (a .g) (s .pre .0))),
+        c .before .four .ensures .1,
+      ),
+      (
+        is _ _ (s .pre .1) (s .pre .0) (c .four2 .ensures .0) ∙ ap (groupSum (a .q .now) (a .g))
+            (sym (nibble-high (a .block .now) (a .j) (a .g) (s .pre .0) byte)),
+        c .four2 .ensures .1,
+      ),
     )
 
 pub group-spec : {M : Type 1} → statement M

@@ -1,6 +1,6 @@
 -- `sums::parts::lanes::lane_sums` meets its contract. Assumes nothing.
 use mathlib.Core.Path.{_≡_, refl}
-use Prim.Native.Nat.{_*_, _-_, _≤_, zero-le}
+use Prim.Native.Nat.{_-_, _≤_, zero-le}
 use native.Mathlib.Omega.{arith}
 use lib.ListN.{length}
 use Rattle.sums.specs.Held.{Lanes}
@@ -38,10 +38,13 @@ slice-aggregate-gather-2 c = search needs
 
 gather-requires : tie.Need-gather-requires Inv-loop μ-loop
 gather-requires c κs =
-    let a = c .before .before .before .before .before .before .before .before .before .before .args in
-    let v = c .before .before .before .before .before .before .loop .inv .1 in
-    let e = c .before .before .before .stretch .ensures in
-    (v .long, e .long, lanes-fit (a .q .now) (a .block .now) (c .before .before .before .before .before .before .loop .g) 1024 v e (c .before .before .before .before .before .before .before .before .before .before .pre .query))
+    let c3 = c .before .before .before in
+    let c6 = c3 .before .before .before in
+    let c10 = c6 .before .before .before .before in
+    let a = c10 .args in
+    let v = c6 .loop .inv .1 in
+    let e = c3 .stretch .ensures in
+    (v .long, e .long, lanes-fit (a .q .now) (a .block .now) (c6 .loop .g) 1024 v e (c10 .pre .query))
 
 add-g : tie.Need-add-g Inv-loop μ-loop
 add-g c = search needs
@@ -51,9 +54,12 @@ loop-less c = omega arith
 
 loop-again : tie.Need-loop-again Inv-loop μ-loop
 loop-again c =
-    let a = c .before .before .before .before .before .before .before .before .before .before .before .args in
-    let e = c .before .before .before .before .stretch .ensures in
-    (omega arith, lanes-more (a .q .now) (a .block .now) (c .before .before .before .before .before .before .before .loop .g) 1024 (c .before .before .before .before .before .before .before .loop .inv .1) e (c .gather .ensures), e .long)
+    let c4 = c .before .before .before .before in
+    let c7 = c4 .before .before .before in
+    let c11 = c7 .before .before .before .before in
+    let a = c11 .args in
+    let e = c4 .stretch .ensures in
+    (omega arith, lanes-more (a .q .now) (a .block .now) (c7 .loop .g) 1024 (c7 .loop .inv .1) e (c .gather .ensures), e .long)
 
 sub-stretch : tie.Need-sub-stretch Inv-loop μ-loop
 sub-stretch c = search needs
@@ -72,16 +78,22 @@ slice-aggregate-gather-4 c = search needs
 
 gather-requires-2 : tie.Need-gather-requires-2 Inv-loop μ-loop
 gather-requires-2 c κs =
-    let a = c .before .before .before .before .before .before .before .before .before .before .args in
-    let v = c .before .before .before .before .before .before .loop .inv .1 in
-    let e = c .before .before .before .stretch2 .ensures in
-    (v .long, e .long, lanes-fit (a .q .now) (a .block .now) (c .before .before .before .before .before .before .loop .g) _ v e (c .before .before .before .before .before .before .before .before .before .before .pre .query))
+    let c3 = c .before .before .before in
+    let c6 = c3 .before .before .before in
+    let c10 = c6 .before .before .before .before in
+    let a = c10 .args in
+    let v = c6 .loop .inv .1 in
+    let e = c3 .stretch2 .ensures in
+    (v .long, e .long, lanes-fit (a .q .now) (a .block .now) (c6 .loop .g) _ v e (c10 .pre .query))
 
 returns : tie.Need-returns Inv-loop μ-loop
 returns c =
-    let a = c .before .before .before .before .before .before .before .before .before .before .before .args in
-    lanes-plain (a .q .now) (a .block .now) _ (c .before .before .before .before .before .before .before .before .before .before .before .pre .query) (omega arith)
-    (lanes-more (a .q .now) (a .block .now) (c .before .before .before .before .before .before .before .loop .g) _ (c .before .before .before .before .before .before .before .loop .inv .1) (c .before .before .before .before .stretch2 .ensures) (c .gather2 .ensures))
+    let c4 = c .before .before .before .before in
+    let c7 = c4 .before .before .before in
+    let c11 = c7 .before .before .before .before in
+    let a = c11 .args in
+    lanes-plain (a .q .now) (a .block .now) _ (c11 .pre .query) (omega arith)
+    (lanes-more (a .q .now) (a .block .now) (c7 .loop .g) _ (c7 .loop .inv .1) (c4 .stretch2 .ensures) (c .gather2 .ensures))
 
 pub lane-sums-spec : {M : Type 1} → statement M
 lane-sums-spec =

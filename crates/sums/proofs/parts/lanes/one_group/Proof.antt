@@ -14,7 +14,8 @@ use Rattle.sums.proofs.parts.lanes.one_group.Statement.{statement}
 use Rattle.sums.proofs.parts.lanes.one_group.Tie as tie
 
 abbrev Inv-loop : tie.InvT-loop
-Inv-loop q t block g lo₀ hi₀ j₀ lo hi j = (j ≤ 16) × (length lo ≡ 16) × (length hi ≡ 16) × ((i : ℕ) → i < j → getD lo i 0 ≡ groupsSum q (laneNibble block i) g 1) × ((i : ℕ) → i < j → getD hi i 0 ≡ groupsSum q (laneNibble block (i + 16)) g 1)
+Inv-loop q t block g lo₀ hi₀ j₀ lo hi j = (j ≤ 16) × (length lo ≡ 16) × (length hi ≡ 16) ×
+    ((i : ℕ) → i < j → getD lo i 0 ≡ groupsSum q (laneNibble block i) g 1) × ((i : ℕ) → i < j → getD hi i 0 ≡ groupsSum q (laneNibble block (i + 16)) g 1)
 
 abbrev μ-loop : tie.MeasureT-loop
 μ-loop q t block g lo₀ hi₀ j₀ lo hi j = 16 - j
@@ -39,14 +40,17 @@ loop-less c = omega arith
 
 loop-again : tie.Need-loop-again Inv-loop μ-loop
 loop-again c =
-    let a = c .before .before .before .before .before .before .before .before .args in
+    let c8 = c .before .before .before .before .before .before .before .before in
+    let a = c8 .args in
     let l = c .before .before .loop in
     let e = c .group .ensures in (
       omega arith,
       simp length-set (l .inv .1),
       simp length-set (l .inv .2),
-      filled-more (λ i. groupsSum (a .q .now) (laneNibble (a .block .now) i) (a .g) 1) (l .lo) (l .j) _ (omega arith) (l .inv .3) (e .0 .0 ∙ sym (groups-one (a .q .now) (laneNibble (a .block .now) (l .j)) (a .g))),
-      filled-more (λ i. groupsSum (a .q .now) (laneNibble (a .block .now) (i + 16)) (a .g) 1) (l .hi) (l .j) _ (omega arith) (l .inv .4) (e .1 .0 ∙ sym (groups-one (a .q .now) (laneNibble (a .block .now) (l .j + 16)) (a .g))),
+      filled-more (λ i. groupsSum (a .q .now) (laneNibble (a .block .now) i) (a .g) 1) (l .lo) (l .j) _ (omega arith) (l .inv .3)
+          (e .0 .0 ∙ sym (groups-one (a .q .now) (laneNibble (a .block .now) (l .j)) (a .g))),
+      filled-more (λ i. groupsSum (a .q .now) (laneNibble (a .block .now) (i + 16)) (a .g) 1) (l .hi) (l .j) _ (omega arith) (l .inv .4)
+          (e .1 .0 ∙ sym (groups-one (a .q .now) (laneNibble (a .block .now) (l .j + 16)) (a .g))),
     )
 
 same-length : tie.Need-same-length Inv-loop μ-loop
@@ -57,9 +61,14 @@ same-length-2 c = omega arith
 
 returns : tie.Need-returns Inv-loop μ-loop
 returns c =
-    let a = c .before .before .before .before .before .before .before .args in
+    let c7 = c .before .before .before .before .before .before .before in
+    let a = c7 .args in
     let l = c .before .loop in (
-      record { long = l .inv .1; each = λ j h. l .inv .3 j (omega arith) ∙ ap (λ (k : ℕ). groupsSum (a .q .now) (laneNibble (a .block .now) k) (a .g) 1) (sym (add-zero j)) },
+      record {
+        long = l .inv .1;
+        each = λ j h. l .inv .3 j (omega arith) ∙ ap (λ (k : ℕ). groupsSum (a .q .now) (laneNibble (a .block .now) k) (a .g) 1)
+            (sym (add-zero j));
+      },
       record { long = l .inv .2; each = λ j h. l .inv .4 j (omega arith) },
     )
 

@@ -10,7 +10,8 @@ use Rattle.sums.proofs.parts.lanes.put.Statement.{statement}
 use Rattle.sums.proofs.parts.lanes.put.Tie as tie
 
 abbrev Inv-loop : tie.InvT-loop
-Inv-loop out₀ at acc j₀ out j = (j ≤ 16) × (length out ≡ 32) × ((k : ℕ) → k < at → getD out k 0 ≡ getD out₀ k 0) × ((i : ℕ) → i < j → getD out (i + at) 0 ≡ getD acc i 0)
+Inv-loop out₀ at acc j₀ out j = (j ≤ 16) × (length out ≡ 32) × ((k : ℕ) → k < at → getD out k 0 ≡ getD out₀ k 0) ×
+    ((i : ℕ) → i < j → getD out (i + at) 0 ≡ getD acc i 0)
 
 abbrev μ-loop : tie.MeasureT-loop
 μ-loop out₀ at acc j₀ out j = 16 - j

@@ -51,9 +51,10 @@ same-length c = omega arith
 
 returns : tie.Need-returns Inv-loop μ-loop
 returns c =
+    let c4 = c .before .before .before .before in
     let l = c .before .loop in
     let e : l .k ≡ 32 = omega arith in
-    sym (take-all (4 * l .k) (l .out) (omega arith)) ∙ l .inv .2 ∙ ap (λ (n : ℕ). wordsOf n (λ j. getD (c .before .before .before .before .args .sums .now) j 0)) e
+    sym (take-all (4 * l .k) (l .out) (omega arith)) ∙ l .inv .2 ∙ ap (λ (n : ℕ). wordsOf n (λ j. getD (c4 .args .sums .now) j 0)) e
 
 pub put-sums-spec : {M : Type 1} → statement M
 put-sums-spec =

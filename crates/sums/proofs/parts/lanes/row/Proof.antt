@@ -38,13 +38,15 @@ loop-less c = search needs
 
 loop-again : tie.Need-loop-again Inv-loop μ-loop
 loop-again c =
-    let a = c .before .before .before .before .before .args in
+    let c5 = c .before .before .before .before .before in
+    let a = c5 .args in
     let l = c .before .loop in
     let one : 16 * a .d + (l .j + 1) ≡ 16 * a .d + l .j + 1 = omega arith in
     let at : a .d ≡ (16 * a .d + l .j) / 16 = omega arith in (
       omega arith,
       simp length-set (l .inv .1),
-      rw one (filled-more (λ i. getD (a .q .now) (i / 16) 0) (l .t) (16 * a .d + l .j) _ (omega arith) (l .inv .2) (c .before .before .byte-at .ensures ∙ ap (λ (x : ℕ). getD (a .q .now) x 0) at)),
+      rw one (filled-more (λ i. getD (a .q .now) (i / 16) 0) (l .t) (16 * a .d + l .j) _ (omega arith) (l .inv .2)
+          (c .before .before .byte-at .ensures ∙ ap (λ (x : ℕ). getD (a .q .now) x 0) at)),
     )
 
 same-length : tie.Need-same-length Inv-loop μ-loop

@@ -10,7 +10,8 @@ use Rattle.sums.proofs.parts.lanes.widen.Statement.{statement}
 use Rattle.sums.proofs.parts.lanes.widen.Tie as tie
 
 abbrev Inv-loop : tie.InvT-loop
-Inv-loop acc₀ part j₀ acc j = (j ≤ 16) × (length acc ≡ 16) × ((i : ℕ) → i < j → getD acc i 0 ≡ getD acc₀ i 0 + getD part i 0) × ((i : ℕ) → j ≤ i → getD acc i 0 ≡ getD acc₀ i 0)
+Inv-loop acc₀ part j₀ acc j = (j ≤ 16) × (length acc ≡ 16) × ((i : ℕ) → i < j → getD acc i 0 ≡ getD acc₀ i 0 + getD part i 0) ×
+    ((i : ℕ) → j ≤ i → getD acc i 0 ≡ getD acc₀ i 0)
 
 abbrev μ-loop : tie.MeasureT-loop
 μ-loop acc₀ part j₀ acc j = 16 - j
@@ -31,7 +32,10 @@ cast-acc : tie.Need-cast-acc Inv-loop μ-loop
 cast-acc c = omega (arith, c .shared-slice-known .given (c .before .before .before .loop .j))
 
 add-acc : tie.Need-add-acc Inv-loop μ-loop
-add-acc c = let l = c .before .before .before .loop in omega (arith, l .inv .3 (l .j) (omega arith), c .before .before .before .before .pre .2 (l .j) (omega arith))
+add-acc c =
+    let c3 = c .before .before .before in
+    let c4 = c3 .before in
+    let l = c3 .loop in omega (arith, l .inv .3 (l .j) (omega arith), c4 .pre .2 (l .j) (omega arith))
 
 mul-acc-2 : tie.Need-mul-acc-2 Inv-loop μ-loop
 mul-acc-2 c = search needs
@@ -47,11 +51,14 @@ loop-less c = omega arith
 
 loop-again : tie.Need-loop-again Inv-loop μ-loop
 loop-again c =
-    let a = c .before .before .before .before .args in
-    let l = c .before .before .before .loop in (
+    let c3 = c .before .before .before in
+    let c4 = c3 .before in
+    let a = c4 .args in
+    let l = c3 .loop in (
       omega arith,
       simp length-set (l .inv .1),
-      filled-more (λ i. getD (a .acc .now) i 0 + getD (a .part .now) i 0) (l .acc) (l .j) _ (omega arith) (l .inv .2) (ap (λ (x : ℕ). x + getD (a .part .now) (l .j) 0) (l .inv .3 (l .j) (omega arith))),
+      filled-more (λ i. getD (a .acc .now) i 0 + getD (a .part .now) i 0) (l .acc) (l .j) _ (omega arith) (l .inv .2)
+          (ap (λ (x : ℕ). x + getD (a .part .now) (l .j) 0) (l .inv .3 (l .j) (omega arith))),
       rest-more (a .acc .now) (l .acc) (l .j) _ (l .inv .3),
     )
 

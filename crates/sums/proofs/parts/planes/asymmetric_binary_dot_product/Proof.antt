@@ -51,14 +51,18 @@ add-result-3 c = search needs
 
 returns : tie.Need-returns
 returns c =
-    let a = c .before .before .before .before .before .before .before .args in
-    let p = c .before .before .before .before .before .before .before .pre in
+    let c3 = c .before .before .before in
+    let c4 = c3 .before in
+    let c7 = c4 .before .before .before in
+    let a = c7 .args in
+    let p = c7 .pre in
     let q = a .q .now in
     let words = a .words .now in
     let n = codeWords (length q) in
-    let bytes : (k : ℕ) → getD words k 0 < 256 = λ k. omega (arith, c .before .before .before .before .shared-slice-known3 .given k) in
+    let bytes : (k : ℕ) → getD words k 0 < 256 = λ k. omega (arith, c4 .shared-slice-known3 .given k) in
     let held = held-ones q words (a .t .now) in
-    let is = counts-plain q words (p .0) bytes (c .before .before .before .plane-ones .ensures .0 ∙ held 0 0 (p .1 .one)) (c .before .before .plane-ones2 .ensures .0 ∙ held 1 n (p .1 .two))
+    let is = counts-plain q words (p .0) bytes (c3 .plane-ones .ensures .0 ∙ held 0 0 (p .1 .one))
+    (c .before .before .plane-ones2 .ensures .0 ∙ held 1 n (p .1 .two))
     (c .before .plane-ones3 .ensures .0 ∙ held 2 (2 * n) (p .1 .four)) (c .plane-ones4 .ensures .0 ∙ held 3 (3 * n) (p .1 .eight)) in
     (is, omega (arith, is, plain-le q (wordsBit words) (p .0) (words-bit-lt words)))
 

@@ -34,12 +34,16 @@ same-length c = search needs
 
 returns : tie.Need-returns
 returns c =
-    let n = codeWords (length (c .before .before .before .before .before .before .before .before .before .before .before .before .before .before .before .before .before .before .args .q .now)) in
-    let f0 = c .before .before .before .before .before .before .before .before .before .before .before .before .before .before .fill-plane in
-    let f1 = c .before .before .before .before .before .before .before .before .before .before .fill-plane2 in
-    let f2 = c .before .before .before .before .before .before .fill-plane3 in
+    let c6 = c .before .before .before .before .before .before in
+    let c10 = c6 .before .before .before .before in
+    let c14 = c10 .before .before .before .before in
+    let c18 = c14 .before .before .before .before in
+    let n = codeWords (length (c18 .args .q .now)) in
+    let f0 = c14 .fill-plane in
+    let f1 = c10 .fill-plane2 in
+    let f2 = c6 .fill-plane3 in
     let f3 = c .before .before .fill-plane4 in record {
-      room = omega (arith, f0 .kept .1 .1 .0, f1 .kept .1 .1 .0, f2 .kept .1 .1 .0, f3 .kept .1 .1 .0, c .before .before .before .before .before .before .before .before .before .before .before .before .before .before .before .before .before .before .pre .1);
+      room = omega (arith, f0 .kept .1 .1 .0, f1 .kept .1 .1 .0, f2 .kept .1 .1 .0, f3 .kept .1 .1 .0, c18 .pre .1);
       one = λ w l. f3 .ensures .0 (0 + w) (omega arith) ∙ f2 .ensures .0 (0 + w) (omega arith) ∙ f1 .ensures .0 (0 + w) (omega arith) ∙ f0 .ensures .1 w l;
       two = λ w l. f3 .ensures .0 (n + w) (omega arith) ∙ f2 .ensures .0 (n + w) (omega arith) ∙ f1 .ensures .1 w l;
       four = λ w l. f3 .ensures .0 (2 * n + w) (omega arith) ∙ f2 .ensures .1 w l;

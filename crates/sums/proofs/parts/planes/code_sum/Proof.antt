@@ -32,10 +32,12 @@ same-length c = search needs
 
 returns : tie.Need-returns
 returns c =
-    let a = c .before .before .before .before .before .before .before .before .before .before .args in
+    let c10 = c .before .before .before .before .before .before .before .before .before .before in
+    let a = c10 .args in
     let code = a .code .now in
     let all = take-all (length code - 16) (drop 16 code) (omega (arith, length-drop 16 code)) in
-    c .asymmetric-binary-dot-product .ensures .0 ∙ plain-ext (a .q .now) _ (codeBit code) (λ d _. ap (λ (l : List ℕ). wordsBit l d) all ∙ sym (code-words-bit code d))
+    c .asymmetric-binary-dot-product .ensures .0 ∙ plain-ext (a .q .now) _ (codeBit code)
+    (λ d _. ap (λ (l : List ℕ). wordsBit l d) all ∙ sym (code-words-bit code d))
 
 pub code-sum-spec : {M : Type 1} → statement M
 code-sum-spec =

@@ -14,7 +14,8 @@ use Rattle.sums.proofs.parts.planes.digits.Statement.{statement}
 use Rattle.sums.proofs.parts.planes.digits.Tie as tie
 
 abbrev Inv-loop : tie.InvT-loop
-Inv-loop q p d₀ i₀ d i = (i ≤ length q) × (length d ≡ length d₀) × ((k : ℕ) → k < i → getD d k 0 ≡ bit (getD q k 0) p) × ((k : ℕ) → i ≤ k → getD d k 0 ≡ getD d₀ k 0)
+Inv-loop q p d₀ i₀ d i = (i ≤ length q) × (length d ≡ length d₀) × ((k : ℕ) → k < i → getD d k 0 ≡ bit (getD q k 0) p) ×
+    ((k : ℕ) → i ≤ k → getD d k 0 ≡ getD d₀ k 0)
 
 abbrev μ-loop : tie.MeasureT-loop
 μ-loop q p d₀ i₀ d i = length q - i
@@ -60,7 +61,8 @@ returns c = λ k.
     let v = c .before .loop .inv in
     ⊎-elim
     (λ l. v .2 k (omega arith))
-    (λ l. v .3 k (omega arith) ∙ c .before .before .pre .2 k ∙ sym (bit-none (a .p)) ∙ ap (λ (x : ℕ). bit x (a .p)) (sym (List·getD-eq-default (a .q .now) 0 {n = k} l)))
+    (λ l. v .3 k (omega arith) ∙ c .before .before .pre .2 k ∙ sym (bit-none (a .p)) ∙ ap (λ (x : ℕ). bit x (a .p))
+    (sym (List·getD-eq-default (a .q .now) 0 {n = k} l)))
     (lt-or-ge k (length (a .q .now)))
 
 pub digits-spec : {M : Type 1} → statement M

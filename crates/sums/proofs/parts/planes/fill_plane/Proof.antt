@@ -11,7 +11,8 @@ use Rattle.sums.proofs.parts.planes.fill_plane.Statement.{statement}
 use Rattle.sums.proofs.parts.planes.fill_plane.Tie as tie
 
 abbrev Inv-loop : tie.InvT-loop
-Inv-loop q p t₀ at n w₀ t w = (w ≤ n) × (length t ≡ length t₀) × ((k : ℕ) → k < at → getD t k 0 ≡ getD t₀ k 0) × ((k : ℕ) → k < w → getD t (at + k) 0 ≡ planeWord q p k)
+Inv-loop q p t₀ at n w₀ t w = (w ≤ n) × (length t ≡ length t₀) × ((k : ℕ) → k < at → getD t k 0 ≡ getD t₀ k 0) ×
+    ((k : ℕ) → k < w → getD t (at + k) 0 ≡ planeWord q p k)
 
 abbrev μ-loop : tie.MeasureT-loop
 μ-loop q p t₀ at n w₀ t w = n - w

@@ -50,10 +50,14 @@ loop-less c = omega arith
 
 loop-again : tie.Need-loop-again Inv-loop μ-loop
 loop-again c =
-    let a = c .before .before .before .before .before .before .before .args in
-    let l = c .before .before .before .before .loop in (
+    let c4 = c .before .before .before .before in
+    let c7 = c4 .before .before .before in
+    let a = c7 .args in
+    let l = c4 .loop in (
       omega arith,
-      ap₂ (λ (x y : ℕ). x + y) (l .inv .1) (c .shared .ensures .0 ∙ ap (λ (x : ℕ). ones (bitAnd x (getD (a .t .now) (a .at + l .w) 0))) (c .before .before .u64-at .ensures)) ∙ sym (sum-more (l .w) _),
+      ap₂ (λ (x y : ℕ). x + y) (l .inv .1)
+          (c .shared .ensures .0 ∙ ap (λ (x : ℕ). ones (bitAnd x (getD (a .t .now) (a .at + l .w) 0))) (c .before .before .u64-at .ensures)) ∙ sym
+          (sum-more (l .w) _),
       omega arith,
     )
 

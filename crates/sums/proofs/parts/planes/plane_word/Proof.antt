@@ -43,8 +43,12 @@ word-requires c κs = (search needs, λ i. subst (λ (x : ℕ). x < 2) (sym (c .
 returns : tie.Need-returns
 unfolding planeWord
 returns c =
-    let a = c .before .before .before .before .before .before .before .before .args in
-    c .word .ensures ∙ join-ext 1 64 _ (λ i. bit (getD (a .q .now) (64 * a .w + i) 0) (a .p)) (λ i l. c .before .before .before .digits .ensures i ∙ ap (λ (x : ℕ). bit x (a .p)) (part-at (a .q .now) (64 * a .w) _ i (c .before .before .before .before .before .before .least .ensures) l))
+    let c3 = c .before .before .before in
+    let c6 = c3 .before .before .before in
+    let c8 = c6 .before .before in
+    let a = c8 .args in
+    c .word .ensures ∙ join-ext 1 64 _ (λ i. bit (getD (a .q .now) (64 * a .w + i) 0) (a .p))
+    (λ i l. c3 .digits .ensures i ∙ ap (λ (x : ℕ). bit x (a .p)) (part-at (a .q .now) (64 * a .w) _ i (c6 .least .ensures) l))
 
 pub plane-word-spec : {M : Type 1} → statement M
 plane-word-spec =

@@ -22,18 +22,21 @@ abbrev μ-loop : tie.MeasureT-loop
 nibble-of : tie.After-nibble Inv-loop μ-loop → ℕ → ℕ
 nibble-of c i = join 1 4 (λ j. getD (c .before .before .before .before .args .d .now) (4 * i + j) 0)
 
-step : (c : tie.After-nibble Inv-loop μ-loop) → c .before .before .loop .r + c .nibble .result * 2 ^ (4 * c .before .before .loop .k) % 2 ^ 64 ≡ join 4 (c .before .before .loop .k + 1) (nibble-of c)
+step : (c : tie.After-nibble Inv-loop μ-loop) → c .before .before .loop .r + c .nibble .result * 2 ^ (4 * c .before .before .loop .k) % 2 ^ 64 ≡ join 4
+    (c .before .before .loop .k + 1) (nibble-of c)
 unfolding nibble-of
 step c =
     let k = c .before .before .loop .k in
-    ap₂ (λ (x y : ℕ). x + y) (c .before .before .loop .inv .1) (shl-exact 4 (4 * k) 64 (c .nibble .ensures .1) (omega arith) ∙ ap (λ (x : ℕ). x * 2 ^ (4 * k)) (c .nibble .ensures .0))
+    ap₂ (λ (x y : ℕ). x + y) (c .before .before .loop .inv .1)
+    (shl-exact 4 (4 * k) 64 (c .nibble .ensures .1) (omega arith) ∙ ap (λ (x : ℕ). x * 2 ^ (4 * k)) (c .nibble .ensures .0))
     ∙ sym (join-more 4 k (nibble-of c))
 
 fit : (c : tie.After-nibble Inv-loop μ-loop) → join 4 (c .before .before .loop .k + 1) (nibble-of c) < 2 ^ 64
 unfolding nibble-of
 fit c =
+    let c4 = c .before .before .before .before in
     let k = c .before .before .loop .k in
-    lt-of-lt-of-le (join-lt 4 (k + 1) (nibble-of c) (λ i. bits-lt 4 _ (λ j. c .before .before .before .before .pre .1 (4 * i + j)))) (pow-mono {i = 4 * (k + 1)} {j = 64} (omega arith))
+    lt-of-lt-of-le (join-lt 4 (k + 1) (nibble-of c) (λ i. bits-lt 4 _ (λ j. c4 .pre .1 (4 * i + j)))) (pow-mono {i = 4 * (k + 1)} {j = 64} (omega arith))
 
 loop-holds : tie.Need-loop-holds Inv-loop μ-loop
 loop-holds c = (zero-le, sym (join-none 4 _))

@@ -27,7 +27,10 @@ wide-requires : tie.Need-wide-requires Inv-loop μ-loop
 wide-requires c κs = search needs
 
 add-r : tie.Need-add-r Inv-loop μ-loop
-add-r c = omega (arith, c .before .before .before .before .before .pre .small (c .before .before .before .loop .i), c .before .before .before .before .before .pre .few)
+add-r c =
+    let c3 = c .before .before .before in
+    let c5 = c3 .before .before in
+    omega (arith, c5 .pre .small (c3 .loop .i), c5 .pre .few)
 
 add-i : tie.Need-add-i Inv-loop μ-loop
 add-i c = search needs
@@ -37,8 +40,10 @@ loop-less c = omega arith
 
 loop-again : tie.Need-loop-again Inv-loop μ-loop
 loop-again c =
-    let l = c .before .before .before .loop in
-    (omega arith, ap₂ (λ (x y : ℕ). x + y) (l .inv .1) (c .wide .ensures .0) ∙ sym (sum-more (l .i) _), omega (arith, c .before .before .before .before .before .pre .small (l .i)))
+    let c3 = c .before .before .before in
+    let c5 = c3 .before .before in
+    let l = c3 .loop in
+    (omega arith, ap₂ (λ (x y : ℕ). x + y) (l .inv .1) (c .wide .ensures .0) ∙ sym (sum-more (l .i) _), omega (arith, c5 .pre .small (l .i)))
 
 returns : tie.Need-returns Inv-loop μ-loop
 unfolding querySum

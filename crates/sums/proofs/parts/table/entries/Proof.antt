@@ -1,5 +1,5 @@
 -- `sums::parts::table::entries` meets its contract. Assumes nothing.
-use mathlib.Core.Path.{_≡_, refl, sym, ap, ap₂, _∙_}
+use mathlib.Core.Path.{_≡_, refl}
 use Prim.Native.Nat.{ℕ, _+_, _*_, _-_, _/_, _%_, _≤_, _<_, zero-le}
 use native.Mathlib.Omega.{arith}
 use lib.ListN.{getD, length, length-set}
@@ -57,9 +57,18 @@ cast-entry c = search needs
 
 entry-requires : tie.Need-entry-requires Inv-loop μ-loop
 entry-requires c κs =
-    let s = c .before .before .before .before .before .before .before .before .pre .0 .0 .small in
-    let g = 4 * c .before .before .before .before .before .before .before .before .args .g in
-    (omega (arith, c .before .before .before .before .before .byte-at .ensures, s g), omega (arith, c .before .before .before .before .byte-at2 .ensures, s (g + 1)), omega (arith, c .before .before .before .byte-at3 .ensures, s (g + 2)), omega (arith, c .before .before .byte-at4 .ensures, s (g + 3)))
+    let c3 = c .before .before .before in
+    let c4 = c3 .before in
+    let c5 = c4 .before in
+    let c8 = c5 .before .before .before in
+    let s = c8 .pre .0 .0 .small in
+    let g = 4 * c8 .args .g in (
+      omega (arith, c5 .byte-at .ensures, s g),
+      omega (arith, c4 .byte-at2 .ensures, s (g + 1)),
+      omega (arith, c3 .byte-at3 .ensures, s (g + 2)),
+      omega
+          (arith, c .before .before .byte-at4 .ensures, s (g + 3)),
+    )
 
 mul-t : tie.Need-mul-t Inv-loop μ-loop
 mul-t c = search needs
@@ -78,10 +87,16 @@ loop-less c = omega arith
 
 loop-again : tie.Need-loop-again Inv-loop μ-loop
 loop-again c =
-    let x = c .before .before .before .before .before .before .before .before .before .args in
+    let c3 = c .before .before .before in
+    let c4 = c3 .before in
+    let c5 = c4 .before in
+    let c6 = c5 .before in
+    let c9 = c6 .before .before .before in
+    let x = c9 .args in
     let l = c .before .before .loop in
     let one : 16 * x .g + (l .m + 1) ≡ 16 * x .g + l .m + 1 = omega arith in
-    let is = entry-is (x .q .now) (x .g) (l .m) (omega arith) (c .before .before .before .before .before .before .byte-at .ensures) (c .before .before .before .before .before .byte-at2 .ensures) (c .before .before .before .before .byte-at3 .ensures) (c .before .before .before .byte-at4 .ensures) (c .entry .ensures) in (
+    let is = entry-is (x .q .now) (x .g) (l .m) (omega arith) (c6 .byte-at .ensures) (c5 .byte-at2 .ensures) (c4 .byte-at3 .ensures) (c3 .byte-at4 .ensures)
+    (c .entry .ensures) in (
       omega arith,
       simp length-set (l .inv .1),
       rw one (filled-more (λ i. groupSum (x .q .now) (i / 16) (i % 16)) (l .t) (16 * x .g + l .m) _ (omega arith) (l .inv .2) is),

@@ -22,7 +22,7 @@ slice-aggregate-scan-group : tie.Need-slice-aggregate-scan-group Inv-loop μ-loo
 slice-aggregate-scan-group c = search needs
 
 scan-group-requires : tie.Need-scan-group-requires Inv-loop μ-loop
-scan-group-requires c κs = (omega arith, omega arith, omega arith, c .before .before .loop .inv .1)
+scan-group-requires c κs = ((omega arith, omega arith, omega arith), c .before .before .loop .inv .1)
 
 add-g : tie.Need-add-g Inv-loop μ-loop
 add-g c = search needs

@@ -21,7 +21,9 @@ loop-holds : tie.Need-loop-holds Inv-loop μ-loop
 loop-holds c = (zero-le, refl, λ i l. absurd (omega arith))
 
 entries-requires : tie.Need-entries-requires Inv-loop μ-loop
-entries-requires c κs = ((c .before .before .before .before .before .pre .0, omega arith, omega (arith, c .before .before .before .before .before .pre .0 .few)), c .before .before .loop .inv .2)
+entries-requires c κs =
+    let c5 = c .before .before .before .before .before in
+    ((c5 .pre .0, omega arith, omega (arith, c5 .pre .0 .few)), c .before .before .loop .inv .2)
 
 add-g : tie.Need-add-g Inv-loop μ-loop
 add-g c = search needs
@@ -30,7 +32,9 @@ loop-less : tie.Need-loop-less Inv-loop μ-loop
 loop-less c = omega arith
 
 loop-again : tie.Need-loop-again Inv-loop μ-loop
-loop-again c = let l = c .before .before .before .before .before .loop in (omega arith, c .before .before .entries .kept .1 .0 ∙ l .inv .1, λ i h. c .before .before .entries .ensures i (omega arith))
+loop-again c =
+    let c5 = c .before .before .before .before .before in
+    let l = c5 .loop in (omega arith, c .before .before .entries .kept .1 .0 ∙ l .inv .1, λ i h. c .before .before .entries .ensures i (omega arith))
 
 same-length : tie.Need-same-length Inv-loop μ-loop
 same-length c = search needs

@@ -12,13 +12,14 @@ use Rattle.sums.proofs.parts.table.scan_group.Statement.{statement}
 use Rattle.sums.proofs.parts.table.scan_group.Tie as tie
 
 abbrev Inv-loop : tie.InvT-loop
-Inv-loop t groups g sums₀ k₀ sums k = (k ≤ 32) × (length sums ≡ 32) × ((i : ℕ) → i < k → getD sums i 0 ≡ tableCount t (groupsNibble groups i) (g + 1)) × ((i : ℕ) → k ≤ i → getD sums i 0 ≡ getD sums₀ i 0)
+Inv-loop t groups g sums₀ k₀ sums k = (k ≤ 32) × (length sums ≡ 32) × ((i : ℕ) → i < k → getD sums i 0 ≡ tableCount t (groupsNibble groups i) (g + 1)) ×
+    ((i : ℕ) → k ≤ i → getD sums i 0 ≡ getD sums₀ i 0)
 
 abbrev μ-loop : tie.MeasureT-loop
 μ-loop t groups g sums₀ k₀ sums k = 32 - k
 
 loop-holds : tie.Need-loop-holds Inv-loop μ-loop
-loop-holds c = (zero-le, c .before .before .before .pre .3 .long, below-none _, λ i l. refl)
+loop-holds c = (zero-le, c .before .before .before .pre .1 .long, below-none _, λ i l. refl)
 
 mul-at : tie.Need-mul-at Inv-loop μ-loop
 mul-at c = search needs
@@ -43,10 +44,19 @@ wide-requires c κs = search needs
 
 add-sums : tie.Need-add-sums Inv-loop μ-loop
 add-sums c =
-    let a = c .before .before .before .before .before .before .before .before .before .args in
-    let l = c .before .before .before .before .before .loop in
-    let bytes : (i : ℕ) → getD (a .t .now) i 0 < 256 = λ i. omega (arith, c .before .before .before .before .before .before .before .before .shared-slice-known .given i) in
-    omega (arith, l .inv .3 (l .k) (omega arith), c .before .before .before .before .before .before .before .before .before .pre .3 .each (l .k) (omega arith), count-le (a .t .now) (groupsNibble (a .groups .now) (l .k)) (a .g) bytes)
+    let c5 = c .before .before .before .before .before in
+    let c8 = c5 .before .before .before in
+    let c9 = c8 .before in
+    let a = c9 .args in
+    let l = c5 .loop in
+    let bytes : (i : ℕ) → getD (a .t .now) i 0 < 256 = λ i. omega (arith, c8 .shared-slice-known .given i) in
+    omega (
+      arith,
+      l .inv .3 (l .k) (omega arith),
+      c9 .pre .1 .each (l .k) (omega arith),
+      count-le (a .t .now) (groupsNibble (a .groups .now) (l .k))
+          (a .g) bytes,
+    )
 
 mul-sums-2 : tie.Need-mul-sums-2 Inv-loop μ-loop
 mul-sums-2 c = search needs
@@ -62,13 +72,17 @@ loop-less c = omega arith
 
 loop-again : tie.Need-loop-again Inv-loop μ-loop
 loop-again c =
-    let a = c .before .before .before .before .before .before .before .before .before .args in
-    let l = c .before .before .before .before .before .loop in
+    let c3 = c .before .before .before in
+    let c5 = c3 .before .before in
+    let c9 = c5 .before .before .before .before in
+    let a = c9 .args in
+    let l = c5 .loop in
     let m = groupsNibble (a .groups .now) (l .k) in (
       omega arith,
       simp length-set (l .inv .1),
       filled-more (λ i. tableCount (a .t .now) (groupsNibble (a .groups .now) i) (a .g + 1)) (l .sums) (l .k) _ (omega arith) (l .inv .2)
-          (ap₂ (λ (x y : ℕ). x + y) (l .inv .3 (l .k) (omega arith) ∙ c .before .before .before .before .before .before .before .before .before .pre .3 .each (l .k) (omega arith)) (c .wide .ensures .0 ∙ ap (λ (x : ℕ). getD (a .t .now) (16 * a .g + x) 0) (c .before .before .before .nibble .ensures .0)) ∙ sym (count-more (a .t .now) m (a .g))),
+          (ap₂ (λ (x y : ℕ). x + y) (l .inv .3 (l .k) (omega arith) ∙ c9 .pre .1 .each (l .k) (omega arith))
+          (c .wide .ensures .0 ∙ ap (λ (x : ℕ). getD (a .t .now) (16 * a .g + x) 0) (c3 .nibble .ensures .0)) ∙ sym (count-more (a .t .now) m (a .g))),
       rest-more (a .sums .now) (l .sums) (l .k) _ (l .inv .3),
     )
 

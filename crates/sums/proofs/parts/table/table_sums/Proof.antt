@@ -35,10 +35,13 @@ same-length c = search needs
 
 returns : tie.Need-returns
 returns c =
-    let a = c .before .before .before .before .before .before .before .before .before .before .args in
+    let c5 = c .before .before .before .before .before in
+    let c10 = c5 .before .before .before .before .before in
+    let a = c10 .args in
     let all = take-all (length (a .block .now) - 512) (drop 512 (a .block .now)) (omega (arith, length-drop 512 (a .block .now))) in
-    scanned-plain (a .q .now) (c .before .before .before .before .before .gen-table .last .1 .0) (a .block .now) (c .before .before .before .before .before .before .before .before .before .before .pre .0) (c .before .before .before .before .before .gen-table .ensures)
-    (subst (λ (l : List ℕ). Scanned (c .before .before .before .before .before .gen-table .last .1 .0) l (blockGroups (length (a .q .now))) (c .fast-scan-b4 .result)) all (c .fast-scan-b4 .ensures))
+    scanned-plain (a .q .now) (c5 .gen-table .last .1 .0) (a .block .now) (c10 .pre .0) (c5 .gen-table .ensures)
+    (subst (λ (l : List ℕ). Scanned (c5 .gen-table .last .1 .0) l (blockGroups (length (a .q .now))) (c .fast-scan-b4 .result)) all
+    (c .fast-scan-b4 .ensures))
 
 pub table-sums-spec : {M : Type 1} → statement M
 table-sums-spec =

@@ -1,4 +1,4 @@
--- The paper's rows of the sums, worked out on the definitions, as one statement. Assumes nothing.
+-- The greatest sum: codes of one number, all bits set. Assumes nothing.
 use mathlib.Core.Path.{_≡_, refl, ap, ap₂, _∙_}
 use Prim.Native.Nat.{ℕ, zero, suc, _*_, _/_, _%_, _<_, _≤_}
 use mathlib.Core.List.{List, [], _∷_}
@@ -13,20 +13,6 @@ use Rattle.words.proofs.SumLaws.{sum-ext, sum-const}
 use Rattle.code.specs.Code.{codeWords, wordsBit}
 use Rattle.sums.specs.Sums.{plainSum, querySum, planeWord, planeOnes, planeCount}
 
--- query codes 3, 0, 15, 8, 1, and a code's word with the bits 1, 0, 1, 1, 0
-abbrev codes : List ℕ
-codes = 3 ∷ 0 ∷ 15 ∷ 8 ∷ 1 ∷ []
-
-abbrev word : List ℕ
-word = 13 ∷ 0 ∷ 0 ∷ 0 ∷ 0 ∷ 0 ∷ 0 ∷ 0 ∷ []
-
--- 4,369 codes of 15, and the word bytes of a code with all bits set
-abbrev fifteens : List ℕ
-fifteens = replicate 4369 15
-
-abbrev full : List ℕ
-full = replicate (8 * codeWords 4369) 255
-
 ones-of : (j : ℕ) → j < 8 → bit 255 j ≡ 1
 unfolding bit
 ones-of zero h = refl
@@ -40,7 +26,7 @@ ones-of (suc (suc (suc (suc (suc (suc (suc zero))))))) h = refl
 ones-of (suc (suc (suc (suc (suc (suc (suc (suc j)))))))) h = absurd (omega arith)
 
 -- n codes of one number, all bits set, in a code of m bytes
-full-sum : (n m c : ℕ) → n ≤ 8 * m → plainSum (replicate n c) (wordsBit (replicate m 255)) ≡ c * n
+pub full-sum : (n m c : ℕ) → n ≤ 8 * m → plainSum (replicate n c) (wordsBit (replicate m 255)) ≡ c * n
 unfolding plainSum wordsBit
 full-sum n m c h =
     sum-ext (length (replicate n c)) (λ d. getD (replicate n c) d 0 * bit (getD (replicate m 255) (d / 8) 0) (d % 8)) (λ _. c) term
@@ -51,8 +37,3 @@ full-sum n m c h =
         let l′ : d < n = omega (arith, length-replicate {A = ℕ} n c) in
         ap₂ (λ (x y : ℕ). x * bit y (d % 8)) (getD-replicate {A = ℕ} n d c 0 l′) (getD-replicate {A = ℕ} m (d / 8) 255 0 (omega arith))
         ∙ ap (λ (y : ℕ). c * y) (ones-of (d % 8) (omega arith)) ∙ mul-one c
-
-pub worked : (planeWord codes 0 0 ≡ 21) × (planeWord codes 1 0 ≡ 5) × (planeWord codes 2 0 ≡ 4) × (planeWord codes 3 0 ≡ 12) × (numAt 8 word 0 ≡ 13)
-    × (planeCount codes word ≡ 26) × (plainSum codes (wordsBit word) ≡ 26) × (querySum codes ≡ 27) × (plainSum fifteens (wordsBit full) ≡ 65535)
-unfolding planeWord planeCount planeOnes plainSum querySum wordsBit numAt join sumTo bit ones
-worked = (refl, refl, refl, refl, refl, refl, refl, refl, full-sum 4369 (8 * codeWords 4369) 15 (omega arith))

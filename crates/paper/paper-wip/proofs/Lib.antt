@@ -1,0 +1,2 @@
+pub mod Demand1Laws
+pub mod TableLaws

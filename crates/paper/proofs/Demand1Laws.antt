@@ -30,7 +30,8 @@ use Rattle.estimate.specs.declared.Query.{Query}
 use Rattle.estimate.specs.Record.{codeEstimate}
 use Rattle.estimate.specs.Calls as estimate
 use Rattle.walk.specs.Walk as walk
-use Rattle.rerank.specs.Rerank.{State, asksFor, missing, badMark, nextRefusal, supplyRefusal} as rule
+use Rattle.rerank.specs.Rerank.{State, asksFor, badMark, nextRefusal, supplyRefusal}
+use Rattle.rerank.specs.Rerank as rule
 use Rattle.rerank.specs.Calls as rerank
 use Rattle.paper.specs.Demand1.{oneOf, Listed, Meets, Meets2, Meets3, Meets4, Demand1}
 
@@ -55,5 +56,145 @@ unfolding orElse
 joint zero b h k = k
 joint (suc a) b h k = h
 
+-- ---- the tables that several calls share
+
+sized : {numbers : List ℕ} (dims : ℕ) (out : List ℕ) → Listed numbers 1 → Listed numbers 3 → Listed numbers 0 → Listed numbers (sizeNumber dims out)
+unfolding sizeNumber
+sized dims out h1 h3 h0 = row (badDims mostDims dims) h1 (row (badLength out 4) h3 h0)
+
+summed : (dims : ℕ) (query : List ℕ) (other : Bool) → Listed (0 ∷ 1 ∷ 3 ∷ 5 ∷ []) (sums.sumNumber dims query other)
+unfolding sums.sumNumber
+summed dims query other =
+    row (badDims mostDims dims) (at refl) (row (badLength query dims || other) (at refl) (row (aboveTop query) (at refl) (at refl)))
+
+queried : {numbers : List ℕ} (dims : ℕ) (other : Bool) (v : Query) (query : List ℕ) (form : Bool)
+    → Listed numbers 1 → Listed numbers 3 → Listed numbers 4 → Listed numbers 5 → Listed numbers 0
+    → Listed numbers (estimate.queryNumber dims other v query form)
+unfolding estimate.queryNumber
+queried dims other v query form h1 h3 h4 h5 h0 =
+    row (badDims mostDims dims) h1
+    (row (badLength query dims || other) h3 (row (estimate.missingQuery v) h4 (row (form || estimate.badQuery v query) h5 h0)))
+
+rooted : (r : Root) → Listed (0 ∷ 3 ∷ 4 ∷ []) (numberOf r)
+rooted (Is v) = at refl
+rooted Missing = at refl
+
+ruled : {numbers : List ℕ} (s : State) → Listed numbers 4 → Listed numbers 5 → Listed numbers 0 → Listed numbers (nextRefusal s)
+unfolding nextRefusal
+ruled s h4 h5 h0 = row (rule.missing s) h4 (row (badMark s) h5 h0)
+
+-- ---- the modules
+
+module-1 :
+    ((dims bits : ℕ) (out : List ℕ) → Meets (1 ∷ 2 ∷ 3 ∷ []) out (digits.sizeAnswer dims bits out))
+    × ((dims bits : ℕ) (codes out : List ℕ) → Meets (1 ∷ 2 ∷ 3 ∷ 5 ∷ []) out (digits.packAnswer dims bits codes out))
+    × ((dims bits : ℕ) (packed : List ℕ) (index : ℕ) (out : List ℕ) → Meets (1 ∷ 2 ∷ 3 ∷ 6 ∷ []) out (digits.readAnswer dims bits packed index out))
+unfolding digits.sizeAnswer digits.sizeNumber digits.packAnswer digits.packNumber digits.readAnswer digits.readNumber
+module-1 = (
+  λ dims bits out.
+      meets _ _ (row (badDims mostScalarDims dims) (at refl) (row (not (isWidth bits)) (at refl) (row (badLength out 4) (at refl) (at refl)))),
+  λ dims bits codes out.
+      meets _ _ (row (badDims mostScalarDims dims) (at refl) (row (not (isWidth bits)) (at refl)
+      (row (badLength codes dims || badLength out (packedSize bits dims)) (at refl) (row (digits.aboveTop (top bits) codes) (at refl) (at refl))))),
+  λ dims bits packed index out.
+      meets _ _ (row (badDims mostScalarDims dims) (at refl) (row (not (isWidth bits)) (at refl)
+      (row (badLength packed (packedSize bits dims) || badLength out 4) (at refl) (row (leb dims index) (at refl) (at refl))))),
+)
+
+module-2 :
+    ((dims bits : ℕ) (vector lo hi out : List ℕ) → Meets (1 ∷ 2 ∷ 3 ∷ 4 ∷ 5 ∷ []) out (scalar.encodeAnswer dims bits vector lo hi out))
+    × ((metric dims bits : ℕ) (vector lo hi out : List ℕ) → Meets (1 ∷ 2 ∷ 3 ∷ 4 ∷ 5 ∷ []) out (scalar.tableAnswer metric dims bits vector lo hi out))
+    × ((metric dims bits : ℕ) (table packed out : List ℕ) → Meets (1 ∷ 2 ∷ 3 ∷ 5 ∷ 8 ∷ []) out (scalar.distanceAnswer metric dims bits table packed out))
+unfolding scalar.encodeAnswer scalar.encodeNumber scalar.tableAnswer scalar.tableNumber scalar.distanceAnswer scalar.distanceNumber
+module-2 = (
+  λ dims bits vector lo hi out.
+      meets _ _ (row (badDims mostScalarDims dims) (at refl) (row (not (isWidth bits)) (at refl)
+      (row (scalar.badVectors dims vector lo hi || badLength out (packedSize bits dims)) (at refl)
+      (row (scalar.anyMissing dims vector lo hi) (at refl) (row (scalar.aboveMax dims lo hi) (at refl) (at refl)))))),
+  λ metric dims bits vector lo hi out.
+      meets _ _ (row (badDims mostScalarDims dims) (at refl) (row (not (isWidth bits)) (at refl)
+      (row (scalar.badVectors dims vector lo hi || badLength out (tableSize bits dims)) (at refl)
+      (row (scalar.anyMissing dims vector lo hi) (at refl) (row (scalar.aboveMax dims lo hi || badForm metric) (at refl) (at refl)))))),
+  λ metric dims bits table packed out.
+      meets _ _ (row (badDims mostScalarDims dims) (at refl) (row (not (isWidth bits)) (at refl)
+      (row (badLength table (tableSize bits dims) || badLength packed (packedSize bits dims) || badLength out 4) (at refl)
+      (row (badForm metric) (at refl) (row (isNan (sumOf bits dims table packed)) (at refl) (at refl)))))),
+)
+
+modules-3-4-5 :
+    ((x : Float) (out : List ℕ) → Meets (3 ∷ 4 ∷ []) out (root.rootAnswer x out))
+    × ((dims : ℕ) (factors vector out : List ℕ) → Meets (1 ∷ 3 ∷ 4 ∷ []) out (code.encodeAnswer dims factors vector out))
+    × ((dims : ℕ) (single : List ℕ) (index : ℕ) (out : List ℕ) → Meets (1 ∷ 3 ∷ 6 ∷ []) out (code.bitAnswer dims single index out))
+    × ((dims : ℕ) (codes out : List ℕ) → Meets (1 ∷ 3 ∷ []) out (block.packAnswer dims codes out))
+    × ((dims : ℕ) (whole : List ℕ) (lane : ℕ) (out : List ℕ) → Meets (1 ∷ 3 ∷ 6 ∷ []) out (block.laneAnswer dims whole lane out))
+unfolding root.rootAnswer root.rootNumber code.encodeAnswer code.encodeNumber code.bitAnswer code.bitNumber
+unfolding block.packAnswer block.packNumber block.laneAnswer block.laneNumber
+modules-3-4-5 = (
+  λ x out. meets _ _ (row (badLength out 4) (at refl) (rooted (rootOf x))),
+  λ dims factors vector out.
+      meets _ _ (row (badDims mostDims dims) (at refl)
+      (row (badLength factors 16 || badLength vector (4 * dims) || badLength out (codeSize dims)) (at refl) (row (missing dims vector) (at refl) (at refl)))),
+  λ dims single index out.
+      meets _ _ (row (badDims mostDims dims) (at refl)
+      (row (badLength single (codeSize dims) || badLength out 4) (at refl) (row (leb dims index) (at refl) (at refl)))),
+  λ dims codes out.
+      meets _ _ (row (badDims mostDims dims) (at refl) (row (badLength codes (32 * codeSize dims) || badLength out (blockSize dims)) (at refl) (at refl))),
+  λ dims whole lane out.
+      meets _ _ (row (badDims mostDims dims) (at refl)
+      (row (badLength whole (blockSize dims) || badLength out (codeSize dims)) (at refl) (row (ltb 31 lane) (at refl) (at refl)))),
+)
+
 pub demand-1 : Demand1
-demand-1 = ?
+unfolding sizeAnswer sums.querySumAnswer sums.codeSumAnswer sums.blockSumsAnswer
+unfolding estimate.codeAnswer estimate.codeNumber estimate.blockAnswer estimate.recordNumber walk.walkAnswer walk.walkNumber
+unfolding rerank.nextAnswer rerank.nextNumber rerank.supplyAnswer rerank.supplyNumber supplyRefusal
+demand-1 =
+    record {
+      lk-digits-size = module-1 .0;
+      lk-code-size = λ dims out. meets _ _ (sized dims out (at refl) (at refl) (at refl));
+      lk-block-size = λ dims out. meets _ _ (sized dims out (at refl) (at refl) (at refl));
+      lk-digits-pack = module-1 .1;
+      lk-digits-read = module-1 .2;
+      lk-scalar-encode = module-2 .0;
+      lk-scalar-table = module-2 .1;
+      lk-scalar-distance = module-2 .2;
+      lk-root = modules-3-4-5 .0;
+      lk-code-encode = modules-3-4-5 .1;
+      lk-code-bit = modules-3-4-5 .2;
+      lk-block-pack = modules-3-4-5 .3;
+      lk-block-lane = modules-3-4-5 .4;
+      lk-query-sum = λ dims query out. meets _ _ (summed dims query (badLength out 4));
+      lk-code-sum = λ dims query single out. meets _ _ (summed dims query (badLength single (codeSize dims) || badLength out 4));
+      lk-block-sums = λ dims query whole out. meets _ _ (summed dims query (badLength whole (blockSize dims) || badLength out 128));
+      lk-code-estimate = λ asked metric dims v query single out.
+          meets _ _ (joint _ _
+          (queried dims (badLength single (codeSize dims) || badLength out 4) v query (badForm metric) (at refl) (at refl) (at refl) (at refl) (at refl))
+          (row (isNan (codeEstimate asked (metricOf metric) v query single)) (at refl) (at refl)));
+      lk-block-estimates = λ asked metric dims v query whole out.
+          meets _ _
+          (queried dims (badLength whole (blockSize dims) || badLength out 128) v query (badForm metric) (at refl) (at refl) (at refl) (at refl) (at refl));
+      lk-walk = λ metric layout dims v query records n start end ids bounds marks count.
+          let number = walk.walkNumber metric layout dims v query records n start end ids bounds marks count in
+          record {
+            listed = joint _ _
+                (queried dims (ltb mostRecords n || walk.badRecords layout dims n records || walk.badLists ids bounds marks count) v query
+                (badForm metric || badForm layout) (at refl) (at refl) (at refl) (at refl) (at refl))
+                (row (walk.outOfRange n start end) (at refl) (row (ltb (length marks) (end - start)) (at refl)
+                (row (anyBelow (end - start) (λ j. isNan (walk.boundOf (walk.layoutOf layout) (metricOf metric) v query records (start + j)))) (at refl) (at refl))));
+            kept = λ e. (after-refused number ids _ e, after-refused number bounds _ e, after-refused number marks _ e, after-refused number count _ e);
+          };
+      lk-rerank-next = λ estimates distances marks out.
+          let number = rerank.nextNumber estimates distances marks out in
+          record {
+            listed = row (rerank.badLists estimates distances marks || badLength out 16) (at refl) (ruled _ (at refl) (at refl) (at refl));
+            kept = λ e. (after-refused number marks _ e, after-refused number out _ e);
+          };
+      lk-rerank-supply = λ estimates distances marks place distance out.
+          let number = rerank.supplyNumber estimates distances marks place distance out in
+          let state = rerank.stateOf estimates distances marks in
+          record {
+            listed = row (rerank.badLists estimates distances marks || badLength out 4) (at refl)
+                (row (rule.missing state || isNan distance) (at refl) (row (badMark state) (at refl) (row (asksFor (rule.answer state) place) (at refl) (at refl))));
+            kept = λ e. (after-refused number distances _ e, after-refused number marks _ e, after-refused number out _ e);
+          };
+    }

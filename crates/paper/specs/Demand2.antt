@@ -1,0 +1,59 @@
+-- Demand 2: the counts equal the plain sum, packing and reading back loses nothing but pad bits, a lane of a block is its single code, and a
+-- walk over blocks is the walk over the codes they were packed from. (That the answers equal the original's is the harness's to show.)
+use mathlib.Core.Path.{_≡_}
+use Prim.Native.Nat.{ℕ, _+_, _*_, _<_, _≤_}
+use mathlib.Core.Bool.{true, false, cond}
+use mathlib.Core.List.{List, _++_}
+use lib.ListN.{length, getD, take, drop}
+use lib.Ieee.{isNan}
+use Rattle.words.specs.Bytes.{f32At}
+use Rattle.words.specs.declared.Metric.{Metric}
+use Rattle.digits.specs.Digits.{isWidth, levels, top, digitAt, packed}
+use Rattle.digits.specs.Calls.{aboveTop}
+use Rattle.scalar.specs.Table.{tableBytes, entryAt}
+use Rattle.code.specs.Code.{codeSize, codeBit, clearedCode}
+use Rattle.block.specs.Block.{blockGroups, laneNibble, laneBit, laneCode, codeAt, clearedBlock, lanesOf}
+use Rattle.block.specs.Block as block
+use Rattle.sums.specs.Sums.{plainSum, planeCount, wordsNibble, tableOf, tableCount, fastCount}
+use Rattle.estimate.specs.declared.Asked.{Asked}
+use Rattle.estimate.specs.declared.Query.{Query}
+use Rattle.estimate.specs.Calls.{codeAnswer, blockAnswer}
+use Rattle.walk.specs.Walk.{blocksOf, walkAnswer}
+use Rattle.walk.specs.Packed.{packedBlocks}
+
+-- query codes of at most 15 and at most 4,369 dims
+pub record IsQuery (query : List ℕ) : Type 0 where
+  pub few : length query ≤ 4369
+  pub small : (d : ℕ) → getD query d 0 ≤ 15
+
+-- a list of bytes
+abbrev pub Bytes : List ℕ → Type 0
+Bytes s = (i : ℕ) → getD s i 0 < 256
+
+pub record Demand2 : Type 0 where
+  -- digits: reading digit i of what was packed gives code i, and 0 past the last
+  pub digits : (w : ℕ) (codes : List ℕ) → isWidth w ≡ true → aboveTop (top w) codes ≡ false → (i : ℕ) → digitAt w (packed w codes) i ≡ getD codes i 0
+  -- a scalar table: entry j of dimension i reads back as the entry of the definition
+  pub entries : (m : Metric) (w dims : ℕ) (vector lo hi : List ℕ) (i j : ℕ) → i < dims → j < levels w
+      → f32At (tableBytes m w dims vector lo hi) (i * levels w + j) ≡ entryAt m w vector lo hi i j
+  -- the bit-plane count and the nibble-table count of a single code are the plain sum, which is at most 65,535
+  pub planes : (query code : List ℕ) → IsQuery query → Bytes code → planeCount query (drop 16 code) ≡ plainSum query (codeBit code)
+  pub table : (query code : List ℕ) → IsQuery query → Bytes code
+      → tableCount (tableOf query) (wordsNibble (drop 16 code)) (blockGroups (length query)) ≡ plainSum query (codeBit code)
+  pub most : (query code : List ℕ) → IsQuery query → Bytes code → plainSum query (codeBit code) ≤ 65535
+  -- and so are the fast count and the nibble-table count of every lane of a block
+  pub lanes : (query whole : List ℕ) (k : ℕ) → IsQuery query → fastCount query (laneNibble whole k) ≡ plainSum query (laneBit whole k)
+  pub lane-table : (query whole : List ℕ) (k : ℕ) → IsQuery query
+      → tableCount (tableOf query) (laneNibble whole k) (blockGroups (length query)) ≡ plainSum query (laneBit whole k)
+  pub lane-most : (query whole : List ℕ) (k : ℕ) → IsQuery query → plainSum query (laneBit whole k) ≤ 65535
+  -- packing 32 codes and reading lane k back gives code k, pad bits zero; packing the lanes of a block gives the block, pad bits zero
+  pub lane-back : (dims : ℕ) (codes : List ℕ) (k : ℕ) → k < 32 → laneCode dims (block.packed dims codes) k ≡ clearedCode dims (codeAt dims codes k)
+  pub block-back : (dims : ℕ) (whole : List ℕ) → block.packed dims (lanesOf dims whole) ≡ clearedBlock dims whole
+  -- a lane of a block gives the estimate of its single code: the same bits, or a NaN where the single call refuses with 8
+  pub lane-estimate : (asked : Asked) (metric dims : ℕ) (v : Query) (query whole out lanes one : List ℕ) (k : ℕ)
+      → blockAnswer asked metric dims v query whole out ≡ (0, lanes) → length one ≡ 4 → k < 32
+      → codeAnswer asked metric dims v query (laneCode dims whole k) one ≡ cond (isNan (f32At lanes k)) (8, one) (0, take 4 (drop (4 * k) lanes))
+  -- n codes packed 32 at a time, the last block filled up with any codes: the walk over the blocks (layout 2) is the walk over the codes (layout 1)
+  pub walks : (metric dims : ℕ) (v : Query) (query codes fill : List ℕ) (n start end : ℕ) (ids bounds marks count : List ℕ) → length codes ≡ n * codeSize dims
+      → walkAnswer metric 2 dims v query (packedBlocks dims (codes ++ fill) (blocksOf n)) n start end ids bounds marks count
+      ≡ walkAnswer metric 1 dims v query codes n start end ids bounds marks count

@@ -1,4 +1,4 @@
--- Document 01's two example runs, by computation. Assumes nothing.
+-- The paper's two example runs, by computation. Assumes nothing.
 use mathlib.Core.Path.{refl}
 use lib.Ieee.{ofBits, lt, isNan}
 use Rattle.rerank.specs.Rerank.{put, answer, nextRefusal, supplyRefusal, Accepted, then, Run, drive}

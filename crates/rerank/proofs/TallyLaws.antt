@@ -15,6 +15,7 @@ use Rattle.words.proofs.SumLaws.{sum-ext, sum-const, sum-le}
 use Rattle.rerank.specs.Rerank.{State, put, answer, nextRefusal, supplyRefusal, given, supplied, oneOrTwo, counted, Event, asked, supply, gave, done}
 use Rattle.rerank.specs.Rerank.{Accepted, then, ran, Run, tally, aSupply, aGive, supplyOf, giveOf, drive}
 use Rattle.rerank.specs.Demand.{Fresh, notWaiting, Ends}
+use Rattle.rerank.specs.Scan.{notZero}
 use Rattle.rerank.specs.declared.Answer.{Answer}
 use Rattle.rerank.specs.declared.Answer.the-variants.{Ask, Give, Done}
 use Rattle.rerank.proofs.OrderLaws.{Num}
@@ -23,9 +24,6 @@ use Rattle.rerank.proofs.RuleLaws.{Clean, next-clean, clean-next, clean
 use Rattle.rerank.proofs.RunLaws.{Supplying, supplying, Giving, giving, run-cut, ran-estimate, clean-then}
 
 -- ---- numbers of a mark
-abbrev pub notZero : ℕ → ℕ
-notZero m = cond (eqb m 0) 0 1
-
 abbrev pub isTwo : ℕ → ℕ
 isTwo m = cond (eqb m 2) 1 0
 

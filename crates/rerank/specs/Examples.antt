@@ -1,4 +1,4 @@
--- Document 01's two example runs, as one statement.
+-- The paper's two example runs, as one statement.
 use mathlib.Core.Path.{_≡_}
 use mathlib.Core.List.{List, [], _∷_}
 use Prim.Native.Nat.{ℕ}

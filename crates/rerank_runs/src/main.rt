@@ -1,4 +1,4 @@
-// Runs document 01's two examples over the calls of `rerank` and writes what a caller hears, with the count after each Done.
+// Runs the paper's two examples over the calls of `rerank` and writes what a caller hears, with the count after each Done.
 
 fn say(word: &[u8], n: u32) {
     io::write_all(1, word);

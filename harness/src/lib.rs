@@ -14,6 +14,7 @@ pub mod paper;
 pub mod refusal;
 pub mod rng;
 pub mod rust;
+#[path = "../../bindings/rust/src/sys.rs"]
 pub mod sys;
 pub mod trial;
 #[path = "../upstream/mod.rs"]

@@ -65,7 +65,7 @@ fn rust_functions(sys: &str) -> Vec<Function> {
 #[test]
 fn the_header_and_sys_declare_the_same() {
     let header = c_functions(include_str!("../../include/lintelkite.h"));
-    let sys = rust_functions(include_str!("../src/sys.rs"));
+    let sys = rust_functions(include_str!("../../bindings/rust/src/sys.rs"));
     assert!(!header.is_empty());
     assert_eq!(header, sys);
 }

@@ -10,7 +10,7 @@ use Rattle.words.specs.Floats.{missing}
 use Rattle.words.specs.Limits.{mostDims, mostScalarDims, mostRecords}
 use Rattle.words.specs.Lists.{anyBelow}
 use Rattle.words.specs.Metrics.{metricOf}
-use Rattle.words.specs.Refusals.{after, answer, orElse, badDims, badLength, badForm, sizeNumber, sizeAnswer}
+use Rattle.words.specs.Refusals.{answer, orElse, badDims, badLength, badForm, sizeNumber, sizeAnswer}
 use Rattle.words.proofs.RefusalLaws.{after-refused}
 use Rattle.digits.specs.Digits.{isWidth, top, packedSize}
 use Rattle.digits.specs.Calls as digits
@@ -33,7 +33,7 @@ use Rattle.walk.specs.Walk as walk
 use Rattle.rerank.specs.Rerank.{State, asksFor, badMark, nextRefusal, supplyRefusal}
 use Rattle.rerank.specs.Rerank as rule
 use Rattle.rerank.specs.Calls as rerank
-use Rattle.paper.specs.Demand1.{oneOf, Listed, Meets, Meets2, Meets3, Meets4, Demand1}
+use Rattle.paper.specs.Demand1.{oneOf, Listed, Meets, Demand1}
 
 -- ---- an answer, by its number alone
 
@@ -127,8 +127,7 @@ modules-3-4-5 :
     × ((dims : ℕ) (single : List ℕ) (index : ℕ) (out : List ℕ) → Meets (1 ∷ 3 ∷ 6 ∷ []) out (code.bitAnswer dims single index out))
     × ((dims : ℕ) (codes out : List ℕ) → Meets (1 ∷ 3 ∷ []) out (block.packAnswer dims codes out))
     × ((dims : ℕ) (whole : List ℕ) (lane : ℕ) (out : List ℕ) → Meets (1 ∷ 3 ∷ 6 ∷ []) out (block.laneAnswer dims whole lane out))
-unfolding root.rootAnswer root.rootNumber code.encodeAnswer code.encodeNumber code.bitAnswer code.bitNumber
-unfolding block.packAnswer block.packNumber block.laneAnswer block.laneNumber
+unfolding root.rootAnswer root.rootNumber code.encodeAnswer code.encodeNumber code.bitAnswer code.bitNumber block.packAnswer block.packNumber block.laneAnswer block.laneNumber
 modules-3-4-5 = (
   λ x out. meets _ _ (row (badLength out 4) (at refl) (rooted (rootOf x))),
   λ dims factors vector out.
@@ -145,9 +144,7 @@ modules-3-4-5 = (
 )
 
 pub demand-1 : Demand1
-unfolding sizeAnswer sums.querySumAnswer sums.codeSumAnswer sums.blockSumsAnswer
-unfolding estimate.codeAnswer estimate.codeNumber estimate.blockAnswer estimate.recordNumber walk.walkAnswer walk.walkNumber
-unfolding rerank.nextAnswer rerank.nextNumber rerank.supplyAnswer rerank.supplyNumber supplyRefusal
+unfolding sizeAnswer sums.querySumAnswer sums.codeSumAnswer sums.blockSumsAnswer estimate.codeAnswer estimate.codeNumber estimate.blockAnswer estimate.recordNumber walk.walkAnswer walk.walkNumber walk.rangeNumber rerank.nextAnswer rerank.nextNumber rerank.supplyAnswer rerank.supplyNumber supplyRefusal
 demand-1 =
     record {
       lk-digits-size = module-1 .0;
@@ -179,8 +176,9 @@ demand-1 =
             listed = joint _ _
                 (queried dims (ltb mostRecords n || walk.badRecords layout dims n records || walk.badLists ids bounds marks count) v query
                 (badForm metric || badForm layout) (at refl) (at refl) (at refl) (at refl) (at refl))
-                (row (walk.outOfRange n start end) (at refl) (row (ltb (length marks) (end - start)) (at refl)
-                (row (anyBelow (end - start) (λ j. isNan (walk.boundOf (walk.layoutOf layout) (metricOf metric) v query records (start + j)))) (at refl) (at refl))));
+                (joint _ _ (row (walk.outOfRange n start end) (at refl) (row (ltb (length marks) (end - start)) (at refl) (at refl)))
+                (row (anyBelow (end - start) (λ j. isNan (walk.boundOf (walk.layoutOf layout) (metricOf metric) v query records (start + j)))) (at refl)
+                (at refl)));
             kept = λ e. (after-refused number ids _ e, after-refused number bounds _ e, after-refused number marks _ e, after-refused number count _ e);
           };
       lk-rerank-next = λ estimates distances marks out.
@@ -194,7 +192,8 @@ demand-1 =
           let state = rerank.stateOf estimates distances marks in
           record {
             listed = row (rerank.badLists estimates distances marks || badLength out 4) (at refl)
-                (row (rule.missing state || isNan distance) (at refl) (row (badMark state) (at refl) (row (asksFor (rule.answer state) place) (at refl) (at refl))));
+                (row (rule.missing state || isNan distance) (at refl)
+                (row (badMark state) (at refl) (row (asksFor (rule.answer state) place) (at refl) (at refl))));
             kept = λ e. (after-refused number distances _ e, after-refused number marks _ e, after-refused number out _ e);
           };
     }

@@ -9,7 +9,7 @@ use mathlib.Core.List.{[]}
 use Prim.Native.Nat.{ℕ, _<_}
 use native.Mathlib.Omega.{arith}
 use lib.ListN.{getD}
-use Rattle.paper.specs.Demand2.{IsQuery, Demand2}
+use Rattle.paper.specs.Demand2.{Demand2}
 
 nothing : (i : ℕ) → getD {A = ℕ} [] i 0 < 256
 nothing i = omega arith

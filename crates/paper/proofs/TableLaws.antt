@@ -1,9 +1,8 @@
 -- The paper's numbers, by computation. Assumes nothing.
 use Prim.Native.Nat.{ℕ, _*_}
-use mathlib.Core.List.{List, [], _∷_}
-use mathlib.Core.Path.{_≡_, refl, ap}
+use mathlib.Core.List.{[], _∷_}
+use mathlib.Core.Path.{_≡_, ap}
 use native.Mathlib.Omega.{arith}
-use lib.Bits.{bitAnd}
 use lib.Count.{ones, trailingZeros}
 use Rattle.words.specs.Bytes.{numAt}
 use Rattle.code.specs.Code.{codeWords, wordsBit}
@@ -20,7 +19,5 @@ use Rattle.rerank.specs.Rerank.{put, better, least, choose, answer, drive}
 use Rattle.paper.specs.Table.{rows, given, wanted}
 
 pub table : given ≡ wanted
-unfolding packed packedByte join sumTo joined tabulate numAt bit ones planeWord planeOnes planeCount plainSum querySum wordsBit
-unfolding codeOf rounded quotient delOf div sub add neg sum round units odd size span climb ofInt trailingZeros ofBits toBits ofFields rootOf
-unfolding drive lt isNan put better least choose answer
+unfolding packed packedByte join sumTo joined tabulate numAt bit ones planeWord planeOnes planeCount plainSum querySum wordsBit codeOf rounded quotient delOf div sub add neg sum round units odd size span climb ofInt trailingZeros ofBits toBits ofFields rootOf drive lt isNan put better least choose answer
 table = ap (λ (x : ℕ). (x ∷ []) ∷ rows) (full-sum 4369 (8 * codeWords 4369) 15 (omega arith))

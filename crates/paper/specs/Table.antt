@@ -10,7 +10,7 @@ use Rattle.words.specs.Bytes.{numAt}
 use Rattle.code.specs.Code.{codeWords, codeSize, wordsBit}
 use Rattle.block.specs.Block.{blockSize}
 use Rattle.sums.specs.Sums.{plainSum, querySum, planeWord, planeCount}
-use Rattle.rerank.specs.Rerank.{State, Event, asked, supply, gave, done, drive}
+use Rattle.rerank.specs.Rerank.{Event, asked, supply, gave, done, drive}
 
 -- a float by its bits
 abbrev pub f32 : ℕ → Float

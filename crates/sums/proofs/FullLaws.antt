@@ -1,17 +1,13 @@
 -- The greatest sum: codes of one number, all bits set. Assumes nothing.
 use mathlib.Core.Path.{_≡_, refl, ap, ap₂, _∙_}
 use Prim.Native.Nat.{ℕ, zero, suc, _*_, _/_, _%_, _<_, _≤_}
-use mathlib.Core.List.{List, [], _∷_}
 use native.Mathlib.Omega.{arith}
 use native.Mathlib.Nat.{mul-one}
-use lib.Count.{ones}
 use lib.ListN.{length, getD, replicate, length-replicate, getD-replicate}
-use Rattle.words.specs.Bytes.{numAt}
-use Rattle.words.specs.Digits.{bit, join}
-use Rattle.words.specs.Sums.{sumTo}
+use Rattle.words.specs.Digits.{bit}
 use Rattle.words.proofs.SumLaws.{sum-ext, sum-const}
-use Rattle.code.specs.Code.{codeWords, wordsBit}
-use Rattle.sums.specs.Sums.{plainSum, querySum, planeWord, planeOnes, planeCount}
+use Rattle.code.specs.Code.{wordsBit}
+use Rattle.sums.specs.Sums.{plainSum}
 
 ones-of : (j : ℕ) → j < 8 → bit 255 j ≡ 1
 unfolding bit

@@ -1,17 +1,17 @@
 -- Laws of specs/Calls: the number at each return, what an accepted call knows, and its answers. Assumes nothing.
-use mathlib.Core.Path.{_≡_, refl, sym, ap, _∙_}
-use mathlib.Core.Bool.{Bool, true, false, not, _||_, cond}
-use Prim.Native.Nat.{ℕ, _≤_, suc}
+use mathlib.Core.Path.{_≡_, refl, sym, _∙_}
+use mathlib.Core.Bool.{Bool, true, false, not, _||_}
+use Prim.Native.Nat.{ℕ}
 use mathlib.Core.List.{List}
 use native.Mathlib.Omega.{arith}
 use lib.Dec.{eqb}
 use lib.ListN.{length}
 use borrow.Author.Tests.{eqb-true, not-false}
-use lib.Ieee.{Float, isNan, lt, ofBits, toBits, binary32}
-use Rattle.words.specs.Bytes.{floatBytes, wordsOf}
+use lib.Ieee.{isNan, lt, ofBits, binary32}
+use Rattle.words.specs.Bytes.{floatBytes}
 use Rattle.words.specs.Limits.{mostDims}
 use Rattle.words.specs.Metrics.{metricOf}
-use Rattle.words.specs.Refusals.{after, answer, orElse, badDims, badLength, badForm}
+use Rattle.words.specs.Refusals.{answer, orElse, badDims, badLength, badForm}
 use Rattle.words.proofs.RefusalLaws.{no-row, neither, sized, unsized, few-dims, else-first, else-second, after-refused, accepts, refuses}
 use Rattle.code.specs.Code.{codeSize}
 use Rattle.block.specs.Block.{blockSize}

@@ -1,36 +1,37 @@
 -- Laws of specs/Estimate and specs/Record: a sum as a float, the formulas case by case, tests for NaN. Assumes nothing.
-use mathlib.Core.Path.{_≡_, refl, sym, ap, ap₂, subst, _∙_}
+use mathlib.Core.Path.{_≡_, refl, sym, ap, subst, _∙_}
 use mathlib.Core.Bool.{Bool, true, false, not}
-use Prim.Native.Nat.{ℕ, _+_, _*_, _≤_}
+use Prim.Native.Nat.{ℕ, _+_, _-_, _*_, _/_, _%_, _≤_, _<_}
 use native.Mathlib.Omega.{arith}
 use mathlib.Core.List.{List}
 use lib.Dec.{T}
 use lib.ListN.{length, take, drop}
 use lib.Seq.{sets, length-sets}
 use lib.IntN.{pos}
-use lib.Ieee.{Float, nan, inf, fin, binary32, inFloat, fits, isNan, ne, lt, ofBits, toBits}
+use lib.Ieee.{Float, nan, inf, fin, binary32, inFloat, fits, isNan, nanBits, ne, lt, ofBits, toBits}
 use lib.Ieee.Fits.{add-fits, sub-fits}
 use lib.Ieee.Compare.{differs-from-itself}
-use lib.Ieee.Bits.{is-false}
+use lib.Ieee.Bits.{nanBits-is, is-false}
 use borrow.Author.Tests.{le-leb}
-use Rattle.words.specs.Bytes.{bytesOf, floatBytes, wordsOf}
+use Rattle.words.specs.Bytes.{numAt, f32At, bytesOf, floatBytes, wordsOf}
 use Rattle.words.specs.Floats.{notFinite}
 use Rattle.words.specs.Limits.{mostSum}
 use Rattle.words.specs.declared.Metric.{Metric}
 use Rattle.words.specs.declared.Metric.the-variants.{L2, Dot}
-use Rattle.words.proofs.FloatLaws.{same-no-nan}
-use Rattle.words.proofs.WordsLaws.{words-more}
+use Rattle.words.proofs.FloatLaws.{same-no-nan, nan-pattern, no-nan-pattern}
+use Rattle.words.proofs.WordsLaws.{words-ext, words-more}
 use Rattle.code.specs.declared.parts.reader.Factors.{Factors}
 use Rattle.code.specs.Code.{codeBit, wordsBit}
 use Rattle.code.proofs.CodeLaws.{code-words-bit}
-use Rattle.sums.specs.Sums.{plainSum, querySum}
+use Rattle.sums.specs.Held.{LaneSums}
+use Rattle.sums.specs.Sums.{plainSum}
 use Rattle.sums.proofs.PlainLaws.{plain-ext}
 use Rattle.estimate.specs.declared.Asked.{Asked}
 use Rattle.estimate.specs.declared.Asked.the-variants.{Rough, LowerBound}
 use Rattle.estimate.specs.declared.Query.{Query}
 use Rattle.estimate.specs.declared.Ready.{Ready}
 use Rattle.estimate.specs.Estimate.{_⊕_, _⊗_, halved, near, far, rough, spread, lowerBound, estimate}
-use Rattle.estimate.specs.Record.{estimateOf, IsReady}
+use Rattle.estimate.specs.Record.{estimateOf, laneEstimate, laneWords, estimateWords, IsReady}
 
 -- a sum is turned to f32 without loss
 pub sum-in-float : (n : ℕ) → n ≤ mostSum → T (inFloat binary32 (pos n))
@@ -61,6 +62,13 @@ pub ready-estimate : (w : Asked) (m : Metric) (qs : List ℕ) (p : Ready) (f f�
     → IsReady qs p → f ≡ f′ → s ≡ plainSum qs b → estimate w m (p .v) f s (p .total) ≡ estimateOf w m (p .v) qs f′ b
 unfolding estimateOf
 ready-estimate w m qs p f f′ s b r ef es = rw (ef, es, r .total) refl
+
+-- what is written of 32 lanes from their sums
+pub lanes-same : (w : Asked) (m : Metric) (qs : List ℕ) (p : Ready) (block s out : List ℕ) → IsReady qs p → LaneSums qs block s
+    → out ≡ estimateWords 32 w m p s block → out ≡ laneWords w m (p .v) qs block
+unfolding laneWords laneEstimate
+lanes-same w m qs p block s out r h e =
+    e ∙ words-ext 32 _ _ (λ k l. ap (toBits binary32) (ready-estimate w m qs p _ _ _ _ r refl (h .sums .each k l)))
 
 -- the sum that is worked out from the word bytes
 pub words-sum : (qs code words : List ℕ) → words ≡ drop 16 code → plainSum qs (wordsBit words) ≡ plainSum qs (codeBit code)
@@ -98,3 +106,18 @@ not-above nan e = refl
 not-above (inf true) e = refl
 not-above (inf false) e = refl
 not-above (fin s m k) e = e
+
+-- ---- a NaN by its pattern, its sign taken off
+
+pub nan-there : (s : List ℕ) (i n : ℕ) → n ≡ numAt 4 s (4 * i) → 0x7F80_0000 < n - n / 0x8000_0000 * 0x8000_0000 → isNan (f32At s i) ≡ true
+unfolding f32At isNan
+nan-there s i n e h = let l : 0x7F80_0000 < n % 0x8000_0000 = omega arith in rw (sym e, nan-pattern n l) refl
+
+pub number-there : (s : List ℕ) (i n : ℕ) → n ≡ numAt 4 s (4 * i) → n - n / 0x8000_0000 * 0x8000_0000 ≤ 0x7F80_0000 → isNan (f32At s i) ≡ false
+unfolding f32At
+number-there s i n e h =
+    let l : n % 0x8000_0000 ≤ 0x7F80_0000 = omega arith in
+    rw (sym e) (sym (nanBits-is binary32 n) ∙ is-false (nanBits binary32 n) (no-nan-pattern n l))
+
+pub number-pattern : (n : ℕ) → isNan (ofBits binary32 n) ≡ false → T (not (nanBits binary32 n))
+number-pattern n e = subst (λ (b : Bool). T (not b)) (sym (nanBits-is binary32 n ∙ e)) tt

@@ -1,7 +1,6 @@
 -- A lane of a block gives the estimate of its single code. Assumes nothing.
 use mathlib.Core.Path.{_≡_, refl, sym, ap, ap₂, _∙_}
-use mathlib.Core.Bool.{Bool, true, false, cond}
-use Prim.Native.Nat.{ℕ, zero, suc, _+_, _*_, _/_, _%_, _<_, _≤_}
+use Prim.Native.Nat.{ℕ, zero, suc, _+_, _*_, _/_, _%_, _<_}
 use mathlib.Core.List.{List}
 use native.Mathlib.Omega.{arith}
 use native.Mathlib.Nat.{add-zero}
@@ -11,16 +10,15 @@ use Rattle.words.specs.Bytes.{numAt, f32At}
 use Rattle.words.specs.declared.Metric.{Metric}
 use Rattle.code.specs.declared.parts.reader.Factors.{Factors}
 use Rattle.code.specs.Code.{codeBit, codeOf, clearedCode}
-use Rattle.code.specs.Reader.{factorsAt}
 use Rattle.code.proofs.CodeLaws.{code-bit-lt, factor-of-code, bit-of-code}
 use Rattle.block.specs.Block.{laneFactor, laneBit, laneCode}
 use Rattle.block.proofs.LaneLaws.{lane-bit-lt}
-use Rattle.sums.specs.Sums.{plainSum, querySum}
+use Rattle.sums.specs.Sums.{querySum}
 use Rattle.sums.proofs.PlainLaws.{plain-ext}
 use Rattle.estimate.specs.declared.Asked.{Asked}
 use Rattle.estimate.specs.declared.Query.{Query}
 use Rattle.estimate.specs.Estimate.{estimate}
-use Rattle.estimate.specs.Record.{estimateOf, codeEstimate, laneFactors, laneEstimate}
+use Rattle.estimate.specs.Record.{estimateOf, codeEstimate, laneEstimate}
 
 -- the same bytes write the same number
 num-ext : (n : ℕ) (s t : List ℕ) (i j : ℕ) → ((b : ℕ) → b < n → getD s (i + b) 0 ≡ getD t (j + b) 0) → numAt n s i ≡ numAt n t j

@@ -1,6 +1,6 @@
 -- The paper's worked row of module 7, computed: the bits of L2 rough, dot rough, and their lower bounds. Assumes nothing.
 use mathlib.Core.Path.{_≡_, refl}
-use mathlib.Core.List.{List, [], _∷_, map}
+use mathlib.Core.List.{[], _∷_, map}
 use Prim.Native.Nat.{ℕ}
 use lib.Ieee.{Float, binary32, ofBits, toBits, add, sub, mul, ofInt}
 use Rattle.words.specs.declared.Metric.the-variants.{L2, Dot}

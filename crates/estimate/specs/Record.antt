@@ -1,7 +1,8 @@
 -- The estimate of a record in bytes: of a single code, and of a lane of a block.
 use mathlib.Core.Path.{_≡_}
-use Prim.Native.Nat.{ℕ, _+_, _≤_}
+use Prim.Native.Nat.{ℕ, _+_, _≤_, _<_}
 use mathlib.Core.List.{List}
+use lib.ListN.{length, getD}
 use lib.Ieee.{Float, toBits, binary32}
 use Rattle.words.specs.Bytes.{f32At, wordsOf}
 use Rattle.words.specs.Limits.{mostSum}
@@ -44,3 +45,14 @@ pub record IsReady (qs : List ℕ) (p : Ready) : Type 0 where
   pub root : p .root ≡ rootFloat (p .v .«dis_v_2»)
   pub total : p .total ≡ querySum qs
   pub fits : p .total ≤ mostSum
+
+-- what is worked out of it and of the sums of 32 lanes is exact
+pub record Fits (p : Ready) (s : List ℕ) : Type 0 where
+  pub root : p .root ≡ rootFloat (p .v .«dis_v_2»)
+  pub total : p .total ≤ mostSum
+  pub long : length s ≡ 32
+  pub sums : (k : ℕ) → k < 32 → getD s k 0 ≤ mostSum
+
+-- the estimates of the first n lanes, from their sums s
+abbrev pub estimateWords : ℕ → Asked → Metric → Ready → List ℕ → List ℕ → List ℕ
+estimateWords n w m p s block = wordsOf n (λ k. toBits binary32 (estimate w m (p .v) (laneFactors block k) (getD s k 0) (p .total)))

@@ -1,17 +1,21 @@
 // What the calls here and in the crates above are made of, for callers that have judged their inputs.
 ghost use mathlib.Core.Path.{_≡_};
-ghost use mathlib.Core.Bool.{false, not, _||_};
+ghost use mathlib.Core.Bool.{cond, false, not, _||_};
 ghost use Prim.Native.Nat.{ℕ, _+_, _*_, _<_, _≤_};
 ghost use lib.Dec.{eqb};
+ghost use lib.Ieee.{ofInt, isNan, binary32};
+ghost use lib.IntN.{pos};
 ghost use lib.ListN.{length};
+ghost use Rattle.words.specs.Bytes.{f32At};
 ghost use Rattle.words.specs.Floats.{notFinite};
-ghost use Rattle.words.specs.Limits.{mostDims, mostSum};
+ghost use Rattle.words.specs.Limits.{mostDims, mostSum, mostPlaces};
+ghost use Rattle.words.specs.Lists.{anyBelow};
 ghost use Rattle.words.specs.Refusals.{badDims, badForm};
 ghost use Rattle.code.specs.Code.{codeSize};
 ghost use Rattle.sums.specs.Held as held;
 ghost use Rattle.sums.specs.Held.{Query as Codes, Planes};
 ghost use Rattle.estimate.specs.Estimate.{halved, rough, lowerBound, estimate, rootFloat};
-ghost use Rattle.estimate.specs.Record.{laneFactors, codeEstimate, laneWords, IsReady};
+ghost use Rattle.estimate.specs.Record.{laneFactors, codeEstimate, laneWords, IsReady, Fits, estimateWords};
 ghost use Rattle.estimate.specs.Calls.{missingQuery, badQuery, queryNumber};
 use crate::Asked;
 use crate::Query;
@@ -28,6 +32,7 @@ use words::Metric;
 use words::bad_form;
 use words::f32_at;
 use words::put_f32;
+use words::u32_at;
 
 // ---- the formulas
 
@@ -40,13 +45,22 @@ fn halved(m: Metric, x: f32) -> f32
     }
 }
 
+// A sum as a float. The remainder changes nothing: it tells the compiler that the number is no negative one in the signed
+// conversion, which is one operation where the unsigned one is seven.
+fn float_of(n: u32) -> f32
+    requires { ⌜ n ≤ mostSum ⌝ }
+    ensures { λ r. ⌜ r ≡ ofInt binary32 (pos n) ⌝ }
+{
+    (n % 0x100_0000) as f32
+}
+
 // `process` of the Rust.
 fn rough_of(m: Metric, v: Query, f: Factors, s: u32, q: u32) -> f32
     requires { ⌜ (s ≤ mostSum) × (q ≤ mostSum) ⌝ }
     ensures { λ r. ⌜ r ≡ rough m v f s q ⌝ }
 {
     let near = halved(m, v.b * f.factor_ppc);
-    let spread = 2.0 * (s as f32) - (q as f32);
+    let spread = 2.0 * float_of(s) - float_of(q);
     let far = halved(m, spread * f.factor_ip * v.k);
     match m {
         Metric::L2 => f.dis_u_2 + v.dis_v_2 + near + far,
@@ -200,6 +214,83 @@ pub fn code_estimate(w: Asked, m: Metric, p: Ready, q: &[u8], planes: &[u64], co
     estimate_of(w, m, p, f, s)
 }
 
+// ---- the lanes of a block
+
+// 1 where the float of place i is a NaN, else 0.
+fn nan_at(s: &[u8], i: usize) -> u32
+    requires { ⌜ 4 * i + 4 ≤ length (now s) ⌝ }
+    ensures { λ r. ⌜ (r ≡ cond (isNan (f32At (now (s .entry)) i)) 1 0) × (r ≤ 1) ⌝ }
+{
+    let n = u32_at(s, 4 * i);
+    let sign = n / 0x8000_0000;
+    if 0x7F80_0000 < n - sign * 0x8000_0000 {
+        1
+    } else {
+        0
+    }
+}
+
+// Whether one of the first c floats is a NaN. The loop counts and doesn't leave early: so it goes by vectors.
+pub fn any_nan(s: &[u8], c: usize) -> bool
+    requires { ⌜ (4 * c ≤ length (now s)) × (c ≤ mostPlaces) ⌝ }
+    ensures { λ r. ⌜ r ≡ anyBelow c (λ j. isNan (f32At (now (s .entry)) j)) ⌝ }
+{
+    let mut bad = 0u32;
+    let mut i = 0usize;
+    while i < c {
+        bad += nan_at(s, i);
+        i += 1;
+    }
+    0 < bad
+}
+
+// The float of place i where it is no NaN.
+fn number_at(s: &[u8], i: usize) -> f32
+    requires { ⌜ (4 * i + 4 ≤ length (now s)) × (isNan (f32At (now s) i) ≡ false) ⌝ }
+    ensures { λ r. ⌜ r ≡ f32At (now (s .entry)) i ⌝ }
+{
+    f32::from_bits(u32_at(s, 4 * i))
+}
+
+// The factors of a lane where no factor of the block is a NaN.
+fn lane_numbers(block: &[u8], k: usize) -> Factors
+    requires { ⌜ (k < 32) × (512 ≤ length (now block)) × (anyBelow 128 (λ j. isNan (f32At (now block) j)) ≡ false) ⌝ }
+    ensures { λ r. ⌜ r ≡ laneFactors (now (block .entry)) k ⌝ }
+{
+    Factors {
+        dis_u_2: number_at(block, k),
+        factor_ppc: number_at(block, 32 + k),
+        factor_ip: number_at(block, 64 + k),
+        factor_err: number_at(block, 96 + k),
+    }
+}
+
+// The estimates of the 32 lanes from their sums s, four bytes each.
+fn put_any(w: Asked, m: Metric, p: Ready, s: &[u32], block: &[u8], out: &mut [u8])
+    requires { ⌜ Fits p (now s) × (512 ≤ length (now block)) × (length (now out) ≡ 128) ⌝ }
+    ensures { λ _. ⌜ now (out .exit) ≡ estimateWords 32 w m p (now (s .entry)) (now (block .entry)) ⌝ }
+{
+    let mut k = 0usize;
+    while k < 32 {
+        let f = lane_factors(block, k);
+        put_f32(out, 4 * k, estimate_of(w, m, p, f, s[k]));
+        k += 1;
+    }
+}
+
+// The same where no factor is a NaN: a test less for each of them.
+fn put_numbers(w: Asked, m: Metric, p: Ready, s: &[u32], block: &[u8], out: &mut [u8])
+    requires { ⌜ Fits p (now s) × (512 ≤ length (now block)) × (length (now out) ≡ 128) × (anyBelow 128 (λ j. isNan (f32At (now block) j)) ≡ false) ⌝ }
+    ensures { λ _. ⌜ now (out .exit) ≡ estimateWords 32 w m p (now (s .entry)) (now (block .entry)) ⌝ }
+{
+    let mut k = 0usize;
+    while k < 32 {
+        let f = lane_numbers(block, k);
+        put_f32(out, 4 * k, estimate_of(w, m, p, f, s[k]));
+        k += 1;
+    }
+}
+
 // The estimates of the 32 lanes of a block, from the query's wide table, four bytes each. The Rust's `fscan_process_lowerbound`.
 pub fn put_lanes(
     w: Asked,
@@ -214,10 +305,9 @@ pub fn put_lanes(
     ensures { λ _. ⌜ now (out .exit) ≡ laneWords w m (p .v) (now (q .entry)) (now (block .entry)) ⌝ }
 {
     let s = lane_sums(q, table, block);
-    let mut k = 0usize;
-    while k < 32 {
-        let f = lane_factors(block, k);
-        put_f32(out, 4 * k, estimate_of(w, m, p, f, s[k]));
-        k += 1;
+    if any_nan(block, 128) {
+        put_any(w, m, p, &s, block, out);
+    } else {
+        put_numbers(w, m, p, &s, block, out);
     }
 }

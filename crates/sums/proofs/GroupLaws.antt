@@ -84,7 +84,8 @@ module _ (qs t : List ℕ) (wide : Wide qs t) where
       e
       ∙ ap₂ (λ (x y : ℕ). x + y)
       (ap₂ (λ (x y : ℕ). x + y)
-      (ap₂ (λ (x y : ℕ). x * bit m 0 + y * bit m 1) (at (64 * g + j) (4 * g) (omega arith) (omega arith)) (at (64 * g + 16 + j) (4 * g + 1) (omega arith) (omega arith)))
+      (ap₂ (λ (x y : ℕ). x * bit m 0 + y * bit m 1) (at (64 * g + j) (4 * g) (omega arith) (omega arith))
+      (at (64 * g + 16 + j) (4 * g + 1) (omega arith) (omega arith)))
       (ap (λ (x : ℕ). x * bit m 2) (at (64 * g + 32 + j) (4 * g + 2) (omega arith) (omega arith))))
       (ap (λ (x : ℕ). x * bit m 3) (at (64 * g + 48 + j) (4 * g + 3) (omega arith) (omega arith)))
       ∙ sym (group-four qs g m)

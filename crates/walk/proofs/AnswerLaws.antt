@@ -1,6 +1,6 @@
 -- What a walk past its first tests knows, and its answer at each return. Assumes nothing.
 use mathlib.Core.Path.{_≡_, refl, sym, ap, _∙_}
-use mathlib.Core.Bool.{Bool, true, false, not, _&&_, _||_, cond}
+use mathlib.Core.Bool.{Bool, true, false, not, _&&_, _||_}
 use Prim.Native.Nat.{ℕ, _+_, _-_, _*_, _≤_, _<_}
 use mathlib.Core.List.{List, _++_}
 use native.Mathlib.Omega.{arith}
@@ -12,7 +12,7 @@ use Rattle.words.specs.Bytes.{bytesOf, wordsOf}
 use Rattle.words.specs.Limits.{mostRecords, mostPlaces}
 use Rattle.words.specs.Lists.{anyBelow}
 use Rattle.words.specs.Metrics.{metricOf}
-use Rattle.words.specs.Refusals.{after, orElse, badLength, badForm}
+use Rattle.words.specs.Refusals.{after, badLength, badForm}
 use Rattle.words.proofs.ListLaws.{any-none}
 use Rattle.words.proofs.RefusalLaws.{no-row, neither, after-refused, else-first, else-second}
 use Rattle.words.proofs.WordsLaws.{words-zero}
@@ -49,7 +49,9 @@ module _ (metric layout dims : ℕ) (v : Query) (qs rs : List ℕ) (n start end 
 
   -- as the code's tests give them
   pub judged : (r : ℕ) (lists : Bool)
-      → lists ≡ (ltb mostPlaces (length marks) || not (eqb (length ids) (4 * length marks)) || not (eqb (length bounds) (4 * length marks)) || not (eqb (length count) 4))
+      → lists ≡
+      (ltb mostPlaces (length marks) || not (eqb (length ids) (4 * length marks)) || not (eqb (length bounds) (4 * length marks)) || not
+      (eqb (length count) 4))
       → r ≡ queryNumber dims (ltb mostRecords n || (not (badForm layout) && not (eqb (length rs) (recordsSize (layoutOf layout) dims n))) || lists) v qs
       (badForm metric || badForm layout) → r ≡ firstNumber
   unfolding firstNumber badRecords badLists badLength
@@ -71,7 +73,8 @@ module _ (metric layout dims : ℕ) (v : Query) (qs rs : List ℕ) (n start end 
       let a = accepted dims otherLengths v qs (badForm metric || badForm layout) e in
       let l = neither (ltb mostRecords n || badRecords layout dims n rs) (badLists ids bounds marks count) (a .others) in
       let r = neither (ltb mostRecords n) (badRecords layout dims n rs) (l .0) in
-      let p3 = neither (ltb mostPlaces (length marks) || badLength ids (4 * length marks) || badLength bounds (4 * length marks)) (badLength count 4) (l .1) in
+      let p3 = neither (ltb mostPlaces (length marks) || badLength ids (4 * length marks) || badLength bounds (4 * length marks)) (badLength count 4)
+      (l .1) in
       let p2 = neither (ltb mostPlaces (length marks) || badLength ids (4 * length marks)) (badLength bounds (4 * length marks)) (p3 .0) in
       let p1 = neither (ltb mostPlaces (length marks)) (badLength ids (4 * length marks)) (p2 .0) in
       let f = neither (badForm metric) (badForm layout) (a .formed) in
@@ -123,7 +126,8 @@ module _ (metric layout dims : ℕ) (v : Query) (qs rs : List ℕ) (n start end 
 
   pub walk-written : (c : ℕ) (bs ids′ bounds′ marks′ count′ : List ℕ) → c ≡ end - start → 0 ≡ theNumber
       → bs ≡ boundWords (layoutOf layout) (metricOf metric) v qs rs start (end - start)
-      → ids′ ≡ wordsOf c (λ j. start + j) ++ drop (4 * c) ids → bounds′ ≡ bs ++ drop (4 * c) bounds → marks′ ≡ replicate c 0 ++ drop c marks → count′ ≡ bytesOf 4 c
+      → ids′ ≡ wordsOf c (λ j. start + j) ++ drop (4 * c) ids → bounds′ ≡ bs ++ drop (4 * c) bounds → marks′ ≡ replicate c 0 ++ drop c marks
+      → count′ ≡ bytesOf 4 c
       → (0, ids′, bounds′, marks′, count′) ≡ walkAnswer metric layout dims v qs rs n start end ids bounds marks count
   unfolding walkAnswer after
   walk-written c bs ids′ bounds′ marks′ count′ ec z eb ei eb′ em ek = rw (ei, eb′, em, ek, eb, ec, ← z) refl

@@ -1,6 +1,6 @@
 -- Module 8's law over the layouts: a walk over blocks packed from codes is the walk over those codes. Assumes nothing.
-use mathlib.Core.Path.{_≡_, refl, sym, ap, ap₂, _∙_}
-use mathlib.Core.Bool.{Bool, true, false, not, _&&_, _||_}
+use mathlib.Core.Path.{_≡_, refl, sym, ap, _∙_}
+use mathlib.Core.Bool.{Bool, true, false}
 use Prim.Native.Nat.{ℕ, zero, suc, _+_, _-_, _*_, _/_, _%_, _≤_, _<_}
 use mathlib.Core.List.{List, _++_}
 use native.Mathlib.Omega.{arith}
@@ -8,7 +8,7 @@ use native.Mathlib.Nat.{mul-le-mul, mul-comm, mul-assoc, mul-add}
 use lib.ListN.{length, take, drop, length-drop}
 use lib.Seq.{drop-drop, drop-append-le, take-append-le}
 use lib.Ieee.{isNan, toBits, binary32}
-use Rattle.words.specs.Lists.{anyBelow, joined}
+use Rattle.words.specs.Lists.{anyBelow}
 use Rattle.words.specs.Metrics.{metricOf}
 use Rattle.words.specs.Refusals.{badForm}
 use Rattle.words.specs.declared.Metric.{Metric}
@@ -16,7 +16,7 @@ use Rattle.words.proofs.ListLaws.{joined-at, length-joined, length-tabulate, an
 use Rattle.words.proofs.RefusalLaws.{sized}
 use Rattle.words.proofs.WordsLaws.{words-ext}
 use Rattle.code.specs.Code.{codeSize}
-use Rattle.block.specs.Block.{blockSize, codeAt, packed, blockOf, laneCode}
+use Rattle.block.specs.Block.{blockSize, codeAt, packed, blockOf}
 use Rattle.block.proofs.RoundLaws.{lane-of-packed}
 use Rattle.estimate.specs.declared.Asked.the-variants.{LowerBound}
 use Rattle.estimate.specs.declared.Query.{Query}
@@ -105,7 +105,8 @@ module _ (metric dims : ℕ) (v : Query) (qs codes fill : List ℕ) (n start end
 
   module _ (e : length codes ≡ n * codeSize dims) where
     -- both lengths are right, so the first tests are the same
-    same-first : firstNumber metric 2 dims v qs blocks n start end ids bounds marks count ≡ firstNumber metric 1 dims v qs codes n start end ids bounds marks count
+    same-first : firstNumber metric 2 dims v qs blocks n start end ids bounds marks count
+        ≡ firstNumber metric 1 dims v qs codes n start end ids bounds marks count
     unfolding firstNumber badRecords badForm layoutOf recordsSize
     same-first = rw (sized blocks (blocksOf n * blockSize dims) (length-blocks dims (codes ++ fill) (blocksOf n)), sized codes (n * codeSize dims) e) refl
 
@@ -139,10 +140,12 @@ module _ (metric dims : ℕ) (v : Query) (qs codes fill : List ℕ) (n start end
             sym (walk-refused _ _ _ _ _ _ _ _ _ _ _ _ _ 8 (nan-number _ _ _ _ _ _ _ _ _ _ _ _ _ ok-blocks range (same-some ∙ h)) (λ (z : 8 ≡ 0). omega arith))
             ∙ walk-refused _ _ _ _ _ _ _ _ _ _ _ _ _ 8 (nan-number _ _ _ _ _ _ _ _ _ _ _ _ _ ok range h) (λ (z : 8 ≡ 0). omega arith)
         go false h =
-            sym (walk-written _ _ _ _ _ _ _ _ _ _ _ _ _ _ _ _ _ _ _ refl (zero-number _ _ _ _ _ _ _ _ _ _ _ _ _ ok-blocks range (same-some ∙ h)) (sym same-bounds) refl refl refl refl)
+            sym (walk-written _ _ _ _ _ _ _ _ _ _ _ _ _ _ _ _ _ _ _ refl (zero-number _ _ _ _ _ _ _ _ _ _ _ _ _ ok-blocks range (same-some ∙ h))
+            (sym same-bounds) refl refl refl refl)
             ∙ walk-written _ _ _ _ _ _ _ _ _ _ _ _ _ _ _ _ _ _ _ refl (zero-number _ _ _ _ _ _ _ _ _ _ _ _ _ ok range h) refl refl refl refl refl
 
-      past-first : walkAnswer metric 2 dims v qs blocks n start end ids bounds marks count ≡ walkAnswer metric 1 dims v qs codes n start end ids bounds marks count
+      past-first : walkAnswer metric 2 dims v qs blocks n start end ids bounds marks count
+          ≡ walkAnswer metric 1 dims v qs codes n start end ids bounds marks count
       past-first =
           zero-or (rangeNumber n start end (length marks)) (λ z. go z _ refl)
           (λ h. sym (walk-refused _ _ _ _ _ _ _ _ _ _ _ _ _ _ (range-number _ _ _ _ _ _ _ _ _ _ _ _ _ ok-blocks _ refl h) h)

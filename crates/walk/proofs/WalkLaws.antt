@@ -1,29 +1,26 @@
 -- Laws of specs/Walk: records, the bounds that loops write, marks. Assumes nothing.
 use mathlib.Core.Path.{_≡_, refl, sym, ap, ap₂, _∙_}
-use mathlib.Core.Bool.{Bool, true, false, _&&_}
+use mathlib.Core.Bool.{Bool, false, _&&_}
 use Prim.Native.Nat.{ℕ, zero, suc, _+_, _-_, _*_, _/_, _%_, _<_, _≤_}
 use mathlib.Core.List.{List, _∷_, [], _++_, append-assoc}
 use native.Mathlib.Omega.{arith}
 use native.Mathlib.Nat.{mul-le-mul, mul-comm, add-mul, zero-add, suc-add}
 use native.Mathlib.Numerals.{add-one}
 use lib.Dec.{T, ltb}
-use lib.ListN.{length, take, drop, set, replicate, length-take, length-drop, length-replicate, replicate-append-replicate}
+use lib.ListN.{length, take, drop, set, replicate, length-replicate, replicate-append-replicate}
 use lib.Seq.{drop-cons, set-at, sets, sets-eq, length-sets, take-take, take-all, take-nil}
-use lib.Ieee.{Float, isNan, nanBits, fits, toBits, binary32}
-use lib.Ieee.Bits.{nanBits-is, is-false}
+use lib.Ieee.{isNan, fits, toBits, binary32}
 use borrow.Author.Tests.{lt-ltb, ltb-false}
-use Rattle.words.specs.Bytes.{numAt, wordsOf, f32At}
+use Rattle.words.specs.Bytes.{wordsOf, f32At}
 use Rattle.words.specs.Lists.{anyBelow}
 use Rattle.words.specs.declared.Metric.{Metric}
 use Rattle.words.proofs.ByteLaws.{take-sets}
-use Rattle.words.proofs.FloatLaws.{nan-pattern, no-nan-pattern}
 use Rattle.words.proofs.ListLaws.{any-ext}
-use Rattle.words.proofs.WordsLaws.{length-wordsOf, words-ext, words-split, words-part, words-none, floats-back}
-use Rattle.code.specs.Code.{codeSize}
+use Rattle.words.proofs.WordsLaws.{length-wordsOf, words-ext, words-split, words-part, floats-back}
 use Rattle.block.specs.Block.{blockSize}
 use Rattle.estimate.specs.declared.Asked.the-variants.{LowerBound}
 use Rattle.estimate.specs.declared.Query.{Query}
-use Rattle.estimate.specs.Record.{estimateOf, codeEstimate, laneEstimate, laneWords}
+use Rattle.estimate.specs.Record.{estimateOf, codeEstimate, laneEstimate}
 use Rattle.estimate.proofs.EstimateLaws.{estimate-fits}
 use Rattle.walk.specs.declared.Layout.{Layout}
 use Rattle.walk.specs.declared.Layout.the-variants.{Single, Blocks}
@@ -134,15 +131,3 @@ range-inside n start end e h =
     let s : start < end = omega arith in
     let r : ltb n end ≡ false = ap (λ (b : Bool). b && ltb n end) (sym (lt-ltb start end s)) ∙ e in
     omega (arith, ltb-false n end r)
-
--- ---- a NaN by its pattern, its sign taken off
-
-pub nan-there : (s : List ℕ) (i n : ℕ) → n ≡ numAt 4 s (4 * i) → 0x7F80_0000 < n - n / 0x8000_0000 * 0x8000_0000 → isNan (f32At s i) ≡ true
-unfolding f32At isNan
-nan-there s i n e h = let l : 0x7F80_0000 < n % 0x8000_0000 = omega arith in rw (sym e, nan-pattern n l) refl
-
-pub number-there : (s : List ℕ) (i n : ℕ) → n ≡ numAt 4 s (4 * i) → n - n / 0x8000_0000 * 0x8000_0000 ≤ 0x7F80_0000 → isNan (f32At s i) ≡ false
-unfolding f32At
-number-there s i n e h =
-    let l : n % 0x8000_0000 ≤ 0x7F80_0000 = omega arith in
-    rw (sym e) (sym (nanBits-is binary32 n) ∙ is-false (nanBits binary32 n) (no-nan-pattern n l))

@@ -1,15 +1,13 @@
 // Module 8: the range walk. The Rust's `flat_rerank_continue`.
 ghost use mathlib.Core.Path.{_≡_};
-ghost use mathlib.Core.Bool.{cond, not, _&&_, _||_};
+ghost use mathlib.Core.Bool.{not, _&&_, _||_};
 ghost use mathlib.Core.List.{_++_};
 ghost use Prim.Native.Nat.{ℕ, _+_, _-_, _*_, _/_, _<_, _≤_};
 ghost use lib.Dec.{eqb, ltb};
 ghost use lib.Seq.{sets};
 ghost use lib.ListN.{length, take, drop, replicate};
-ghost use lib.Ieee.{isNan, toBits, binary32};
-ghost use Rattle.words.specs.Bytes.{f32At, bytesOf, wordsOf};
+ghost use Rattle.words.specs.Bytes.{bytesOf, wordsOf};
 ghost use Rattle.words.specs.Limits.{mostDims, mostRecords, mostPlaces};
-ghost use Rattle.words.specs.Lists.{anyBelow};
 ghost use Rattle.words.specs.Refusals.{badForm};
 ghost use Rattle.code.specs.Code.{codeSize};
 ghost use Rattle.block.specs.Block.{blockSize};
@@ -19,10 +17,11 @@ ghost use Rattle.estimate.specs.Calls.{queryNumber};
 ghost use Rattle.estimate.specs.Record.{laneWords, IsReady};
 ghost use Rattle.estimate.specs.declared.Asked.the-variants.{LowerBound};
 ghost use Rattle.walk.specs.Walk.{layoutOf, recordOf, blocksOf, recordsSize, boundOf, badRecords, badLists, outOfRange, rangeNumber, boundWords, walkAnswer};
-ghost use Rattle.walk.specs.Parts.{Range, roomOf};
+ghost use Rattle.walk.specs.Parts.{Range, BlockRange, roomOf};
 use estimate::Asked;
 use estimate::Query;
 use estimate::Ready;
+use estimate::parts::any_nan;
 use estimate::parts::code_estimate;
 use estimate::parts::put_lanes;
 use estimate::parts::query_refusal;
@@ -47,7 +46,6 @@ use words::put_bytes;
 use words::put_f32;
 use words::put_number;
 use words::put_u32;
-use words::u32_at;
 
 pub enum Layout {
     Single,
@@ -134,8 +132,9 @@ fn fill_blocks(
     count: usize,
     buf: &mut [u8],
 )
-    requires { ⌜ Codes (now q) × IsReady (now q) p × (first + count ≤ blocks) × (length (now records) ≡ blocks * blockSize (length (now q))) × (128 * count ≤ length (now buf)) ⌝ }
-    ensures { λ _. ⌜ take (128 * count) (now (buf .exit)) ≡ boundWords Layout.Blocks m (p .v) (now (q .entry)) (now (records .entry)) (32 * first) (32 * count) ⌝ }
+    requires { ⌜ Codes (now q) × IsReady (now q) p × BlockRange (now q) (now records) blocks first count × (128 * count ≤ length (now buf)) ⌝ }
+    ensures { λ _. ⌜ take (128 * count) (now (buf .exit))
+        ≡ boundWords Layout.Blocks m (p .v) (now (q .entry)) (now (records .entry)) (32 * first) (32 * count) ⌝ }
 {
     let mut table = [0u8; WIDE];
     fill_wide(q, &mut table);
@@ -188,34 +187,6 @@ fn fill_bounds(
             lane
         }
     }
-}
-
-// 1 where the float of place i is a NaN, else 0.
-fn nan_at(s: &[u8], i: usize) -> u32
-    requires { ⌜ 4 * i + 4 ≤ length (now s) ⌝ }
-    ensures { λ r. ⌜ (r ≡ cond (isNan (f32At (now (s .entry)) i)) 1 0) × (r ≤ 1) ⌝ }
-{
-    let n = u32_at(s, 4 * i);
-    let sign = n / 0x8000_0000;
-    if 0x7F80_0000 < n - sign * 0x8000_0000 {
-        1
-    } else {
-        0
-    }
-}
-
-// Whether one of the first c floats is a NaN. The loop counts and doesn't leave early: so it goes by vectors.
-fn any_nan(s: &[u8], c: usize) -> bool
-    requires { ⌜ (4 * c ≤ length (now s)) × (c ≤ mostPlaces) ⌝ }
-    ensures { λ r. ⌜ r ≡ anyBelow c (λ j. isNan (f32At (now (s .entry)) j)) ⌝ }
-{
-    let mut bad = 0u32;
-    let mut i = 0usize;
-    while i < c {
-        bad += nan_at(s, i);
-        i += 1;
-    }
-    0 < bad
 }
 
 // ---- the lists
@@ -337,7 +308,9 @@ fn judge(
     n: u32,
     lists: bool,
 ) -> u32
-    ensures { λ r. ⌜ r ≡ queryNumber dims (ltb mostRecords n || (not (badForm layout) && not (eqb records (recordsSize (layoutOf layout) dims n))) || lists) v (now (q .entry)) (badForm metric || badForm layout) ⌝ }
+    ensures { λ r. ⌜ r ≡ queryNumber dims
+        (ltb mostRecords n || (not (badForm layout) && not (eqb records (recordsSize (layoutOf layout) dims n))) || lists)
+        v (now (q .entry)) (badForm metric || badForm layout) ⌝ }
 {
     if bad_dims(dims, MOST_DIMS) {
         return BAD_DIMS;

@@ -45,9 +45,14 @@ same-length c = search needs
 
 returns-3 : tie.Need-returns-3
 returns-3 c =
-    let a = c .before .before .before .before .before .before .before .before .before .before .before .before .before .args in
-    block-value _ _ _ _ _ _ _ _ (number (c .before .before .before .before .before .before)) (c .before .before .before .before .before .if2 .left) _
-    (c .before .before .one-block .ensures ∙ ap (λ (m : Metric). laneWords (a .w) m (a .v) (a .q .now) (a .block .now)) (c .before .before .before .before .metric-of .ensures))
+    let e2 = c .before .before in
+    let e4 = e2 .before .before in
+    let e5 = e4 .before in
+    let e6 = e5 .before in
+    let e13 = e6 .before .before .before .before .before .before .before in
+    let a = e13 .args in
+    block-value _ _ _ _ _ _ _ _ (number (e6)) (e5 .if2 .left) _
+    (e2 .one-block .ensures ∙ ap (λ (m : Metric). laneWords (a .w) m (a .v) (a .q .now) (a .block .now)) (e4 .metric-of .ensures))
 
 pub block-call-spec : {M : Type 1} → statement M
 block-call-spec =

@@ -1,6 +1,5 @@
 -- `estimate::code_call` meets its contract. Assumes nothing.
 use mathlib.Core.Path.{_≡_, sym, ap, _∙_}
-use native.Mathlib.Omega.{arith}
 use lib.Ieee.{isNan}
 use Rattle.words.specs.Bytes.{floatBytes}
 use Rattle.words.specs.Metrics.{metricOf}
@@ -53,7 +52,9 @@ one-code-requires c κs = let k = known (c .before) in (k .codes, k .rec-is ∙ 
 
 returns-3 : tie.Need-returns-3
 returns-3 c =
-    code-none _ _ _ _ _ _ _ _ (number (c .before .before .before .before)) (c .before .before .before .if2 .left) (ap isNan (sym (found (c .before))) ∙ nan-tells _ (c .if3 .taken))
+    let e3 = c .before .before .before in
+    let e4 = e3 .before in
+    code-none _ _ _ _ _ _ _ _ (number (e4)) (e3 .if2 .left) (ap isNan (sym (found (c .before))) ∙ nan-tells _ (c .if3 .taken))
 
 put-float-requires : tie.Need-put-float-requires
 put-float-requires c κs = known (c .before .before .before .before) .out-is
@@ -63,9 +64,14 @@ same-length c = search needs
 
 returns-4 : tie.Need-returns-4
 returns-4 c =
-    let e = found (c .before .before .before .before .before) in
-    code-value _ _ _ _ _ _ _ _ (number (c .before .before .before .before .before .before .before .before)) (c .before .before .before .before .before .before .before .if2 .left) (ap isNan (sym e) ∙ number-tells _ (c .before .before .before .before .if3 .left)) _
-    (c .before .before .put-float .ensures ∙ ap floatBytes e)
+    let e2 = c .before .before in
+    let e4 = e2 .before .before in
+    let e5 = e4 .before in
+    let e7 = e5 .before .before in
+    let e8 = e7 .before in
+    let e = found (e5) in
+    code-value _ _ _ _ _ _ _ _ (number (e8)) (e7 .if2 .left) (ap isNan (sym e) ∙ number-tells _ (e4 .if3 .left)) _
+    (e2 .put-float .ensures ∙ ap floatBytes e)
 
 pub code-call-spec : {M : Type 1} → statement M
 code-call-spec =

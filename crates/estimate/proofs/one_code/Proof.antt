@@ -1,8 +1,5 @@
 -- `estimate::one_code` meets its contract. Assumes nothing.
 use mathlib.Core.Path.{refl}
-use Prim.Native.Nat.{ℕ}
-use native.Mathlib.Omega.{arith}
-use lib.ListN.{length-replicate}
 use borrow.Author.Needs.{needs}
 use Rattle.estimate.proofs.one_code.Statement.{statement}
 use Rattle.estimate.proofs.one_code.Tie as tie

@@ -139,14 +139,15 @@ fn stretch(q: &[u8], t: &[u8], block: &[u8], g: usize, m: usize, out: &mut [u16]
     put(out, 16, &top);
 }
 
-// The sums with 32 numbers added. They are put together in an array of the function's own, which no argument can overlap.
+// The sums with 32 numbers added. They are put together in an array of the function's own, which no argument can overlap; the loop
+// runs to a length and not to 32, which keeps the function small enough to be put into its caller.
 fn gather(sums: &[u32], part: &[u16]) -> [u32; 32]
     requires { ⌜ (length (now sums) ≡ 32) × (length (now part) ≡ 32) × ((k : ℕ) → k < 32 → getD (now sums) k 0 + getD (now part) k 0 ≤ mostSum) ⌝ }
     ensures { λ r. ⌜ Each 32 (λ k. getD (now (sums .entry)) k 0 + getD (now (part .entry)) k 0) r ⌝ }
 {
     let mut r = [0u32; 32];
     let mut k = 0usize;
-    while k < 32 {
+    while k < part.len() {
         r[k] = sums[k] + (part[k] as u32);
         k += 1;
     }

@@ -1,6 +1,5 @@
 -- `walk::bad_records` meets its contract. Assumes nothing.
 use mathlib.Core.Path.{refl}
-use native.Mathlib.Omega.{arith}
 use borrow.Author.Tests.{eq-eqb, ne-eqb}
 use Rattle.words.specs.Refusals.{badForm}
 use Rattle.walk.specs.Walk.{layoutOf, recordsSize}
@@ -30,7 +29,10 @@ times-requires-2 c κs = search needs
 
 returns-2 : tie.Need-returns-2
 unfolding badForm layoutOf recordsSize
-returns-2 c = simp (ne-eqb _ _ (c .before .before .before .if1 .left), eq-eqb _ _ (c .before .before .if2 .taken)) (rw (c .times2 .ensures, c .before .size2 .ensures) refl)
+returns-2 c =
+    let e2 = c .before .before in
+    let e3 = e2 .before in
+    simp (ne-eqb _ _ (e3 .if1 .left), eq-eqb _ _ (e2 .if2 .taken)) (rw (c .times2 .ensures, c .before .size2 .ensures) refl)
 
 returns-3 : tie.Need-returns-3
 unfolding badForm

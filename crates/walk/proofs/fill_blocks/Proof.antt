@@ -1,7 +1,7 @@
 -- `walk::fill_blocks` meets its contract. Assumes nothing.
 use mathlib.Core.Path.{_≡_, refl, sym, ap, _∙_}
 use mathlib.Core.List.{List}
-use Prim.Native.Nat.{ℕ, _+_, _-_, _*_, _≤_, _<_, zero-le}
+use Prim.Native.Nat.{ℕ, _+_, _-_, _*_, _≤_, zero-le}
 use native.Mathlib.Omega.{arith}
 use lib.ListN.{length, take}
 use lib.Seq.{sets}
@@ -38,18 +38,27 @@ loop-holds : tie.Need-loop-holds Inv-loop μ-loop
 loop-holds c = (zero-le, refl, words-none (c .before .before .before .before .before .before .before .args .buf .now) _)
 
 add-record-at : tie.Need-add-record-at Inv-loop μ-loop
-add-record-at c = omega (arith, c .before .before .before .before .before .before .before .before .before .pre .2, c .before .before .before .before .before .before .before .before .before .good)
+add-record-at c =
+    let e9 = c .before .before .before .before .before .before .before .before .before in
+    omega (arith, e9 .pre .2 .inside, e9 .good)
 
 record-at-requires : tie.Need-record-at-requires Inv-loop μ-loop
-record-at-requires c κs = (omega (arith, c .before .before .before .before .before .before .before .before .before .pre .2), c .before .before .before .before .before .before .before .before .before .pre .3 ∙ ap (λ (x : ℕ). c .before .before .before .before .before .before .before .before .before .args .blocks * x) (sym (c .before .before .size .ensures)))
+record-at-requires c κs =
+    let e2 = c .before .before in
+    let e9 = e2 .before .before .before .before .before .before .before in
+    (omega (arith, e9 .pre .2 .inside), e9 .pre .2 .sized ∙ ap (λ (x : ℕ). e9 .args .blocks * x) (sym (e2 .size .ensures)))
 
 slice-aggregate-put-block : tie.Need-slice-aggregate-put-block Inv-loop μ-loop
 slice-aggregate-put-block c = search needs
 
 put-block-requires : tie.Need-put-block-requires Inv-loop μ-loop
 put-block-requires c κs =
-    let a = c .before .before .before .before .before .before .before .before .before .before .before .before .pre in
-    (a .1, record { query = a .0; wide = c .before .before .before .before .before .before .before .fill-wide .ensures; sized = c .before .before .record-at .ensures .1 ∙ c .before .before .before .before .before .size .ensures }, omega (arith, a .4))
+    let e2 = c .before .before in
+    let e5 = e2 .before .before .before in
+    let e7 = e5 .before .before in
+    let e12 = e7 .before .before .before .before .before in
+    let a = e12 .pre in
+    (a .1, record { query = a .0; wide = e7 .fill-wide .ensures; sized = e2 .record-at .ensures .1 ∙ e5 .size .ensures }, omega (arith, a .3))
 
 add-b : tie.Need-add-b Inv-loop μ-loop
 add-b c = omega arith
@@ -60,13 +69,18 @@ loop-less c = omega arith
 loop-again : tie.Need-loop-again Inv-loop μ-loop
 unfolding laneWords
 loop-again c =
-    let l = c .before .before .before .before .before .before .before .loop in
-    let a = c .before .before .before .before .before .before .before .before .before .before .before .before .before .before .before .args in
+    let e2 = c .before .before in
+    let e5 = e2 .before .before .before in
+    let e7 = e5 .before .before in
+    let e8 = e7 .before in
+    let e15 = e8 .before .before .before .before .before .before .before in
+    let l = e7 .loop in
+    let a = e15 .args in
     let lane : List ℕ → ℕ → ℕ = λ x k. toBits binary32 (laneEstimate LowerBound (a .m) (a .p .v) (a .q .now) x k) in
-    let block = c .before .before .before .before .before .record-at .ensures .0 ∙ ap (λ (x : ℕ). recordOf x (a .records .now) (a .first + l .b)) (c .before .before .before .before .before .before .before .before .size .ensures) in
-    let e = c .before .before .put-block .ensures ∙ ap (λ (x : List ℕ). sets (l .buf) (128 * l .b) (wordsOf 32 (lane x))) block in
+    let block = e5 .record-at .ensures .0 ∙ ap (λ (x : ℕ). recordOf x (a .records .now) (a .first + l .b)) (e8 .size .ensures) in
+    let e = e2 .put-block .ensures ∙ ap (λ (x : List ℕ). sets (l .buf) (128 * l .b) (wordsOf 32 (lane x))) block in
     let same = lane-bound (a .m) (a .p .v) (a .q .now) (a .records .now) (a .first) (l .b) in
-    let room : 128 * l .b + 128 ≤ length (l .buf) = omega (arith, c .before .before .before .before .before .before .before .before .before .before .before .before .before .before .before .pre .4) in
+    let room : 128 * l .b + 128 ≤ length (l .buf) = omega (arith, e15 .pre .3) in
     let next = blocks-more (l .buf) _ (l .b) _ _ room e (λ k h. ap (toBits binary32) (same k h)) (l .inv .2) in
     (omega arith, next .1 ∙ l .inv .1, next .0)
 
@@ -75,7 +89,9 @@ same-length c = c .before .loop .inv .1
 
 returns : tie.Need-returns Inv-loop μ-loop
 unfolding boundWords
-returns c = let e : c .before .loop .b ≡ c .before .before .before .before .before .before .before .before .before .args .count = omega arith in rw (← e) (c .before .loop .inv .2)
+returns c =
+    let e9 = c .before .before .before .before .before .before .before .before .before in
+    let e : c .before .loop .b ≡ e9 .args .count = omega arith in rw (← e) (c .before .loop .inv .2)
 
 pub fill-blocks-spec : {M : Type 1} → statement M
 fill-blocks-spec =

@@ -1,7 +1,7 @@
 -- `walk::put_ids` meets its contract. Assumes nothing.
 use mathlib.Core.Path.{_≡_, refl, sym, ap, _∙_}
 use mathlib.Core.List.{List, _++_}
-use Prim.Native.Nat.{ℕ, _+_, _-_, _*_, _≤_, _<_, zero-le}
+use Prim.Native.Nat.{ℕ, _+_, _-_, _*_, _≤_, zero-le}
 use native.Mathlib.Omega.{arith}
 use lib.ListN.{length, drop}
 use lib.Seq.{sets, length-sets}
@@ -39,11 +39,18 @@ loop-less c = omega arith
 
 loop-again : tie.Need-loop-again Inv-loop μ-loop
 loop-again c =
-    let l = c .before .before .before .before .before .loop in
-    let a = c .before .before .before .before .before .before .before .args in
-    let e = c .before .before .put-u32 .ensures in
-    let old = ap (λ (x : List ℕ). sets x (4 * l .i) (bytesOf 4 (a .start + l .i))) (l .inv .2) in
-    (omega arith, ap length e ∙ length-sets (l .ids) (4 * l .i) (bytesOf 4 (a .start + l .i)) ∙ l .inv .1, e ∙ old ∙ words-over (a .ids .now) (l .i) (λ j. a .start + j) (omega arith))
+    let e2 = c .before .before in
+    let e5 = e2 .before .before .before in
+    let e7 = e5 .before .before in
+    let l = e5 .loop in
+    let a = e7 .args in
+    let e = e2 .put-u32 .ensures in
+    let old = ap (λ (x : List ℕ). sets x (4 * l .i) (bytesOf 4 (a .start + l .i))) (l .inv .2) in (
+      omega arith,
+      ap length e ∙ length-sets (l .ids) (4 * l .i) (bytesOf 4 (a .start + l .i)) ∙ l .inv .1,
+      e ∙ old ∙ words-over (a .ids .now) (l .i)
+          (λ j. a .start + j) (omega arith),
+    )
 
 same-length : tie.Need-same-length Inv-loop μ-loop
 same-length c = c .before .loop .inv .1

@@ -35,8 +35,18 @@ same-length-4 c = search needs
 
 returns : tie.Need-returns
 returns c =
-    let s = c .before .before .before .before .before .before .before .before .before .before .before .before .before .before .before .before .before .before .before .before .before in
-    (c .before .before .before .before .before .before .before .before .before .before .before .before .before .before .put-ids .ensures, (c .before .before .before .before .before .before .before .before .before .before .put-bytes .ensures ∙ sets-first (s .args .bounds .now) (s .args .bs .now) (4 * s .args .c) (s .pre .0 .2) (s .pre .0 .4), (c .before .before .before .before .before .before .put-marks .ensures, c .before .before .put-number .ensures)))
+    let e2 = c .before .before in
+    let e6 = e2 .before .before .before .before in
+    let e10 = e6 .before .before .before .before in
+    let e14 = e10 .before .before .before .before in
+    let e20 = e14 .before .before .before .before .before .before in
+    let s = e20 .before in (
+      e14 .put-ids .ensures,
+      (
+        e10 .put-bytes .ensures ∙ sets-first (s .args .bounds .now) (s .args .bs .now) (4 * s .args .c) (s .pre .0 .2) (s .pre .0 .4),
+        (e6 .put-marks .ensures, e2 .put-number .ensures),
+      ),
+    )
 
 pub put-lists-spec : {M : Type 1} → statement M
 put-lists-spec =

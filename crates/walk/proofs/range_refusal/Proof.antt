@@ -18,11 +18,17 @@ range-len-requires c κs = search needs
 
 returns-2 : tie.Need-returns-2
 unfolding rangeNumber
-returns-2 c = simp (sym (c .before .before .before .out-of-range .ensures) ∙ c .before .before .if1 .left, ← c .before .range-len .ensures, lt-ltb _ _ (c .if2 .taken))
+returns-2 c =
+    let e2 = c .before .before in
+    let e3 = e2 .before in
+    simp (sym (e3 .out-of-range .ensures) ∙ e2 .if1 .left, ← c .before .range-len .ensures, lt-ltb _ _ (c .if2 .taken))
 
 returns-3 : tie.Need-returns-3
 unfolding rangeNumber
-returns-3 c = simp (sym (c .before .before .before .out-of-range .ensures) ∙ c .before .before .if1 .left, ← c .before .range-len .ensures, le-ltb _ _ (c .if2 .left))
+returns-3 c =
+    let e2 = c .before .before in
+    let e3 = e2 .before in
+    simp (sym (e3 .out-of-range .ensures) ∙ e2 .if1 .left, ← c .before .range-len .ensures, le-ltb _ _ (c .if2 .left))
 
 pub range-refusal-spec : {M : Type 1} → statement M
 range-refusal-spec =

@@ -1,6 +1,6 @@
 -- `walk::walk` meets its contract. Assumes nothing.
 use mathlib.Core.Path.{_≡_, refl, sym, _∙_}
-use Prim.Native.Nat.{ℕ, _+_, _-_, _*_, _≤_, _<_}
+use Prim.Native.Nat.{ℕ, _-_}
 use native.Mathlib.Omega.{arith}
 use lib.ListN.{length, length-replicate}
 use Rattle.words.specs.Metrics.{metricOf}
@@ -17,8 +17,11 @@ number : (c : tie.After-judge) → let a = c .before .before .before .before .be
     (a .ids .now) (a .bounds .now) (a .marks .now) (a .count .now)
 number c = judged _ _ _ _ _ _ _ _ _ _ _ _ _ _ _ (c .before .bad-lists .ensures) (c .judge .ensures)
 
-accepts : (c : tie.Else1) → let a = c .before .before .before .before .before .before .before .before .before .args in
-    firstNumber (a .metric) (a .layout) (a .dims) (a .v) (a .q .now) (a .records .now) (a .n) (a .start) (a .end) (a .ids .now) (a .bounds .now) (a .marks .now) (a .count .now) ≡ 0
+accepts : (c : tie.Else1) →
+    let e9 = c .before .before .before .before .before .before .before .before .before in
+    let a = e9 .args in
+    firstNumber (a .metric) (a .layout) (a .dims) (a .v) (a .q .now) (a .records .now) (a .n) (a .start) (a .end) (a .ids .now) (a .bounds .now)
+    (a .marks .now) (a .count .now) ≡ 0
 accepts c = sym (number (c .before)) ∙ c .if1 .left
 
 -- the refusals 6 and 7
@@ -27,19 +30,28 @@ within : (c : tie.Else2) → let a = c .before .before .before .before .before .
 within c = sym (c .before .range-refusal .ensures) ∙ c .if2 .left
 
 -- the bounds that are worked out
-filled : (c : tie.After-part) → let a = c .before .before .before .before .before .before .before .before .before .before .before .before .before .before .before .before .before .before .before .args in
+filled : (c : tie.After-part) →
+    let e7 = c .before .before .before .before .before .before .before in
+    let a = e7 .before .before .before .before .before .before .before .before .before .before .before .before .args in
     c .part .result .now ≡ boundWords (layoutOf (a .layout)) (metricOf (a .metric)) (a .v) (a .q .now) (a .records .now) (a .start) (a .end - a .start)
 filled c =
-    c .part .ensures .0 ∙ c .before .before .before .fill-bounds .ensures .0
-    ∙ rw (c .before .before .before .before .before .before .layout-of .ensures, c .before .before .before .before .before .metric-of .ensures, c .before .before .before .before .before .before .before .range-len .ensures) refl
+    let e3 = c .before .before .before in
+    let e5 = e3 .before .before in
+    let e6 = e5 .before in
+    let e7 = e6 .before in
+    c .part .ensures .0 ∙ e3 .fill-bounds .ensures .0
+    ∙ rw (e6 .layout-of .ensures, e5 .metric-of .ensures, e7 .range-len .ensures) refl
 
 -- the refusal 8
-none : (c : tie.After-any-nan) → let a = c .before .before .before .before .before .before .before .before .before .before .before .before .before .before .before .before .before .before .before .before .args in
+none : (c : tie.After-any-nan) →
+    let e8 = c .before .before .before .before .before .before .before .before in
+    let a = e8 .before .before .before .before .before .before .before .before .before .before .before .before .args in
     c .any-nan .result ≡ someNan (a .metric) (a .layout) (a .dims) (a .v) (a .q .now) (a .records .now) (a .n) (a .start) (a .end)
     (a .ids .now) (a .bounds .now) (a .marks .now) (a .count .now)
 unfolding someNan
 none c =
-    c .any-nan .ensures ∙ rw (c .before .before .before .before .before .before .before .before .range-len .ensures) (nans-back _ _ _ _ _ _ _ _ (filled (c .before)))
+    let e8 = c .before .before .before .before .before .before .before .before in
+    c .any-nan .ensures ∙ rw (e8 .range-len .ensures) (nans-back _ _ _ _ _ _ _ _ (filled (c .before)))
 
 bad-lists-requires : tie.Need-bad-lists-requires
 bad-lists-requires c κs = search needs
@@ -48,7 +60,8 @@ judge-requires : tie.Need-judge-requires
 judge-requires c κs = search needs
 
 returns : tie.Need-returns
-returns c = let e = number (c .before) in walk-refused _ _ _ _ _ _ _ _ _ _ _ _ _ _ (first-number _ _ _ _ _ _ _ _ _ _ _ _ _ _ e (c .if1 .taken)) (c .if1 .taken)
+returns c = let e = number (c .before) in
+    walk-refused _ _ _ _ _ _ _ _ _ _ _ _ _ _ (first-number _ _ _ _ _ _ _ _ _ _ _ _ _ _ e (c .if1 .taken)) (c .if1 .taken)
 
 range-refusal-requires : tie.Need-range-refusal-requires
 range-refusal-requires c κs = search needs
@@ -72,11 +85,15 @@ slice-aggregate-fill-bounds c = search needs
 
 fill-bounds-requires : tie.Need-fill-bounds-requires
 fill-bounds-requires c κs =
-    let k = known _ _ _ _ _ _ _ _ _ _ _ _ _ (accepts (c .before .before .before .before .before .before)) in
-    let i = inside _ _ _ _ (within (c .before .before .before .before)) in
-    let n = c .before .before .before .range-len .ensures in (
+    let e2 = c .before .before in
+    let e3 = e2 .before in
+    let e4 = e3 .before in
+    let e6 = e4 .before .before in
+    let k = known _ _ _ _ _ _ _ _ _ _ _ _ _ (accepts (e6)) in
+    let i = inside _ _ _ _ (within (e4)) in
+    let n = e3 .range-len .ensures in (
       k .codes,
-      record { inside = rw n (i .0); few = k .few; sized = rw (c .before .before .layout-of .ensures) (k .sized); places = omega (arith, n, i .1, k .places) },
+      record { inside = rw n (i .0); few = k .few; sized = rw (e2 .layout-of .ensures) (k .sized); places = omega (arith, n, i .1, k .places) },
       length-replicate {A = ℕ} 16512 0,
     )
 
@@ -104,19 +121,26 @@ any-nan-requires c κs =
 
 returns-3 : tie.Need-returns-3
 returns-3 c =
-    let ok = accepts (c .before .before .before .before .before .before .before .before .before .before .before .before) in
-    let r = nan-number _ _ _ _ _ _ _ _ _ _ _ _ _ ok (within (c .before .before .before .before .before .before .before .before .before .before)) (sym (none (c .before)) ∙ c .if3 .taken) in
+    let e10 = c .before .before .before .before .before .before .before .before .before .before in
+    let e12 = e10 .before .before in
+    let ok = accepts (e12) in
+    let r = nan-number _ _ _ _ _ _ _ _ _ _ _ _ _ ok (within (e10)) (sym (none (c .before)) ∙ c .if3 .taken) in
     walk-refused _ _ _ _ _ _ _ _ _ _ _ _ _ 8 r (λ (z : 8 ≡ 0). omega arith)
 
 put-lists-requires : tie.Need-put-lists-requires
 put-lists-requires c κs =
-    let k = known _ _ _ _ _ _ _ _ _ _ _ _ _ (accepts (c .before .before .before .before .before .before .before .before .before .before .before .before .before .before .before .before)) in
-    let i = inside _ _ _ _ (within (c .before .before .before .before .before .before .before .before .before .before .before .before .before .before)) in
-    let n = c .before .before .before .before .before .before .before .before .before .before .before .before .before .range-len .ensures in (
+    let e6 = c .before .before .before .before .before .before in
+    let e13 = e6 .before .before .before .before .before .before .before in
+    let e14 = e13 .before in
+    let e16 = e14 .before .before in
+    let e25 = e16 .before .before .before .before .before .before .before .before .before in
+    let k = known _ _ _ _ _ _ _ _ _ _ _ _ _ (accepts (e16)) in
+    let i = inside _ _ _ _ (within (e14)) in
+    let n = e13 .range-len .ensures in (
       (
-        omega (arith, n, c .before .before .before .before .before .before .before .before .before .before .before .before .before .before .before .before .before .before .before .before .before .before .before .before .before .fits .start, c .before .before .before .before .before .before .before .before .before .before .before .before .before .before .before .before .before .before .before .before .before .before .before .before .before .fits .end),
+        omega (arith, n, e25 .fits .start, e25 .fits .end),
         omega (arith, n, i .1, k .places),
-        c .before .before .before .before .before .before .part .ensures .1,
+        e6 .part .ensures .1,
         omega (arith, n, i .1, k .ids-are),
         omega (arith, n, i .1, k .bounds-are),
       ),
@@ -137,9 +161,16 @@ same-length-4 c = search needs
 
 returns-4 : tie.Need-returns-4
 returns-4 c =
-    let z = zero-number _ _ _ _ _ _ _ _ _ _ _ _ _ (accepts (c .before .before .before .before .before .before .before .before .before .before .before .before .before .before .before .before .before .before .before .before .before .before .before .before .before)) (within (c .before .before .before .before .before .before .before .before .before .before .before .before .before .before .before .before .before .before .before .before .before .before .before)) (sym (none (c .before .before .before .before .before .before .before .before .before .before .before .before .before .before)) ∙ c .before .before .before .before .before .before .before .before .before .before .before .before .before .if3 .left) in
-    let e = c .before .before .before .before .before .before .before .before .put-lists .ensures in
-    walk-written _ _ _ _ _ _ _ _ _ _ _ _ _ _ _ _ _ _ _ (c .before .before .before .before .before .before .before .before .before .before .before .before .before .before .before .before .before .before .before .before .before .before .range-len .ensures) z (filled (c .before .before .before .before .before .before .before .before .before .before .before .before .before .before .before)) (e .0) (e .1 .0) (e .1 .1 .0) (e .1 .1 .1)
+    let e8 = c .before .before .before .before .before .before .before .before in
+    let e13 = e8 .before .before .before .before .before in
+    let e14 = e13 .before in
+    let e15 = e14 .before in
+    let e22 = e15 .before .before .before .before .before .before .before in
+    let e23 = e22 .before in
+    let e25 = e23 .before .before in
+    let z = zero-number _ _ _ _ _ _ _ _ _ _ _ _ _ (accepts (e25)) (within (e23)) (sym (none (e14)) ∙ e13 .if3 .left) in
+    let e = e8 .put-lists .ensures in
+    walk-written _ _ _ _ _ _ _ _ _ _ _ _ _ _ _ _ _ _ _ (e22 .range-len .ensures) z (filled (e15)) (e .0) (e .1 .0) (e .1 .1 .0) (e .1 .1 .1)
 
 pub walk-spec : {M : Type 1} → statement M
 walk-spec =

@@ -1,6 +1,5 @@
 -- `estimate::parts::code_estimate` meets its contract. Assumes nothing.
-use mathlib.Core.Path.{_≡_, ap, _∙_}
-use Prim.Native.Nat.{ℕ, _-_}
+use mathlib.Core.Path.{ap, _∙_}
 use native.Mathlib.Omega.{arith}
 use lib.ListN.{length, length-drop}
 use Rattle.estimate.specs.Record.{codeEstimate}
@@ -17,8 +16,9 @@ words-of-requires c κs = search needs
 
 asymmetric-binary-dot-product-requires : tie.Need-asymmetric-binary-dot-product-requires
 asymmetric-binary-dot-product-requires c κs =
-    let e = ap length (c .words-of .ensures) ∙ length-drop 16 (c .before .before .before .before .before .args .code .now) in
-    (c .before .before .before .before .before .pre .0, c .before .before .before .before .before .pre .2, omega (arith, e, c .before .before .before .before .before .pre .3))
+    let e5 = c .before .before .before .before .before in
+    let e = ap length (c .words-of .ensures) ∙ length-drop 16 (e5 .args .code .now) in
+    (e5 .pre .0, e5 .pre .2, omega (arith, e, e5 .pre .3))
 
 estimate-of-requires : tie.Need-estimate-of-requires
 estimate-of-requires c κs = search needs

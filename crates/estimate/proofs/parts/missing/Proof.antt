@@ -17,7 +17,10 @@ not-finite-requires-2 c κs = search needs
 
 returns-2 : tie.Need-returns-2
 unfolding missingQuery
-returns-2 c = simp (sym (c .before .before .before .not-finite .ensures) ∙ c .before .before .if1 .left, sym (c .before .not-finite2 .ensures) ∙ c .if2 .taken)
+returns-2 c =
+    let e2 = c .before .before in
+    let e3 = e2 .before in
+    simp (sym (e3 .not-finite .ensures) ∙ e2 .if1 .left, sym (c .before .not-finite2 .ensures) ∙ c .if2 .taken)
 
 not-finite-requires-3 : tie.Need-not-finite-requires-3
 not-finite-requires-3 c κs = search needs
@@ -25,7 +28,10 @@ not-finite-requires-3 c κs = search needs
 returns-3 : tie.Need-returns-3
 unfolding missingQuery
 returns-3 c =
-    simp (sym (c .before .before .before .before .not-finite .ensures) ∙ c .before .before .before .if1 .left, sym (c .before .before .not-finite2 .ensures) ∙ c .before .if2 .left) (c .not-finite3 .ensures)
+    let e2 = c .before .before in
+    let e3 = e2 .before in
+    let e4 = e3 .before in
+    simp (sym (e4 .not-finite .ensures) ∙ e3 .if1 .left, sym (e2 .not-finite2 .ensures) ∙ c .before .if2 .left) (c .not-finite3 .ensures)
 
 pub missing-spec : {M : Type 1} → statement M
 missing-spec =

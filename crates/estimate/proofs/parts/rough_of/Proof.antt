@@ -1,6 +1,7 @@
 -- `estimate::parts::rough_of` meets its contract. Assumes nothing.
+use mathlib.Core.Path.{refl, _∙_}
 use Rattle.estimate.specs.Estimate.{spread}
-use Rattle.estimate.proofs.EstimateLaws.{sum-in-float, rough-l2, rough-dot}
+use Rattle.estimate.proofs.EstimateLaws.{rough-l2, rough-dot}
 use borrow.Author.Needs.{needs}
 use Rattle.estimate.proofs.parts.rough_of.Statement.{statement}
 use Rattle.estimate.proofs.parts.rough_of.Tie as tie
@@ -8,11 +9,11 @@ use Rattle.estimate.proofs.parts.rough_of.Tie as tie
 halved-requires : tie.Need-halved-requires
 halved-requires c κs = search needs
 
-int-to-float-spread : tie.Need-int-to-float-spread
-int-to-float-spread c = sum-in-float _ (search needs)
+float-of-requires : tie.Need-float-of-requires
+float-of-requires c κs = search needs
 
-int-to-float-spread-2 : tie.Need-int-to-float-spread-2
-int-to-float-spread-2 c = sum-in-float _ (search needs)
+float-of-requires-2 : tie.Need-float-of-requires-2
+float-of-requires-2 c κs = search needs
 
 halved-requires-2 : tie.Need-halved-requires-2
 halved-requires-2 c κs = search needs
@@ -25,19 +26,30 @@ enum-told-2 c = search needs
 
 returns : tie.Need-returns
 unfolding spread
-returns c = rough-l2 _ _ _ _ _ _ _ (c .before .before .before .before .before .before .before .before .before .halved .ensures) (c .before .before .before .before .halved2 .ensures) (c .before .before .enum-told .given .1)
+returns c =
+    let e2 = c .before .before in
+    let e4 = e2 .before .before in
+    let e7 = e4 .before .before .before in
+    let e8 = e7 .before in
+    let e9 = e8 .before in
+    rough-l2 _ _ _ _ _ _ _ (e9 .halved .ensures) (e4 .halved2 .ensures ∙ rw (e8 .float-of .ensures, e7 .float-of2 .ensures) refl) (e2 .enum-told .given .1)
 
 returns-2 : tie.Need-returns-2
 unfolding spread
-returns-2 c = rough-dot _ _ _ _ _ _ _ (c .before .before .before .before .before .before .before .halved .ensures) (c .before .before .halved2 .ensures) (c .enum-told2 .given .1)
+returns-2 c =
+    let e2 = c .before .before in
+    let e5 = e2 .before .before .before in
+    let e6 = e5 .before in
+    let e7 = e6 .before in
+    rough-dot _ _ _ _ _ _ _ (e7 .halved .ensures) (e2 .halved2 .ensures ∙ rw (e6 .float-of .ensures, e5 .float-of2 .ensures) refl) (c .enum-told2 .given .1)
 
 pub rough-of-spec : {M : Type 1} → statement M
 rough-of-spec =
     tie.close
     (tie.spec
     halved-requires
-    int-to-float-spread
-    int-to-float-spread-2
+    float-of-requires
+    float-of-requires-2
     halved-requires-2
     enum-told
     enum-told-2

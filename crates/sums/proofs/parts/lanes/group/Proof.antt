@@ -69,7 +69,10 @@ shared-slice-read-q3 : tie.Need-shared-slice-read-q3
 shared-slice-read-q3 c = search needs
 
 mul-four : tie.Need-mul-four
-mul-four c = search needs
+mul-four c =
+    let s = c .before .before .before .before in
+    let a = s .before .before .before .before .args in
+    omega (arith, s .shared-slice-known4 .given (512 + 16 * a .g + a .j))
 
 four-requires : tie.Need-four-requires
 four-requires c κs =

@@ -1,10 +1,10 @@
--- `walk::nan_at` meets its contract. Assumes nothing.
+-- `estimate::parts::nan_at` meets its contract. Assumes nothing.
 use mathlib.Core.Path.{refl}
 use native.Mathlib.Omega.{arith}
-use Rattle.walk.proofs.WalkLaws.{nan-there, number-there}
+use Rattle.estimate.proofs.EstimateLaws.{nan-there, number-there}
 use borrow.Author.Needs.{needs}
-use Rattle.walk.proofs.nan_at.Statement.{statement}
-use Rattle.walk.proofs.nan_at.Tie as tie
+use Rattle.estimate.proofs.parts.nan_at.Statement.{statement}
+use Rattle.estimate.proofs.parts.nan_at.Tie as tie
 
 mul-u32-at : tie.Need-mul-u32-at
 mul-u32-at c = search needs

@@ -1,4 +1,4 @@
--- `walk::any_nan` meets its contract. Assumes nothing.
+-- `estimate::parts::any_nan` meets its contract. Assumes nothing.
 use mathlib.Core.Path.{_≡_, sym}
 use Prim.Native.Nat.{_≤_, _-_}
 use native.Mathlib.Omega.{arith}
@@ -7,8 +7,8 @@ use lib.Ieee.{isNan}
 use Rattle.words.specs.Bytes.{f32At}
 use Rattle.words.specs.Lists.{anyBelow}
 use Rattle.words.proofs.ListLaws.{any-none, any-more}
-use Rattle.walk.proofs.any_nan.Statement.{statement}
-use Rattle.walk.proofs.any_nan.Tie as tie
+use Rattle.estimate.proofs.parts.any_nan.Statement.{statement}
+use Rattle.estimate.proofs.parts.any_nan.Tie as tie
 
 abbrev Inv-loop : tie.InvT-loop
 Inv-loop s c bad₀ i₀ bad i = (i ≤ c) × (bad ≤ i) × (ltb 0 bad ≡ anyBelow i (λ j. isNan (f32At s j)))

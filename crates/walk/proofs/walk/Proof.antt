@@ -1,8 +1,11 @@
 -- `walk::walk` meets its contract. Assumes nothing.
-use mathlib.Core.Path.{_≡_, refl, sym, _∙_}
+use mathlib.Core.Path.{_≡_, refl, sym, ap, _∙_}
 use Prim.Native.Nat.{ℕ, _-_}
 use native.Mathlib.Omega.{arith}
 use lib.ListN.{length, length-replicate}
+use lib.Ieee.{isNan}
+use Rattle.words.specs.Bytes.{f32At}
+use Rattle.words.specs.Lists.{anyBelow}
 use Rattle.words.specs.Metrics.{metricOf}
 use Rattle.walk.specs.Walk.{layoutOf, rangeNumber, boundWords}
 use Rattle.walk.proofs.WalkLaws.{nans-back}
@@ -51,7 +54,9 @@ none : (c : tie.After-any-nan) →
 unfolding someNan
 none c =
     let e8 = c .before .before .before .before .before .before .before .before in
-    c .any-nan .ensures ∙ rw (e8 .range-len .ensures) (nans-back _ _ _ _ _ _ _ _ (filled (c .before)))
+    let bs = c .before .part .result .now in
+    c .any-nan .ensures ∙ ap (λ (x : ℕ). anyBelow x (λ j. isNan (f32At bs j))) (e8 .range-len .ensures)
+    ∙ nans-back _ _ _ _ _ _ _ _ (filled (c .before))
 
 bad-lists-requires : tie.Need-bad-lists-requires
 bad-lists-requires c κs = search needs

@@ -22,6 +22,7 @@ pub mod trial;
 pub mod upstream;
 
 pub mod block;
+pub mod cabinet;
 pub mod code;
 pub mod digits;
 pub mod estimate;

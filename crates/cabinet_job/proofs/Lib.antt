@@ -1,0 +1,4 @@
+pub mod PowerLaws
+pub mod SizeLaws
+pub mod StopLaws
+pub mod RoomLaws

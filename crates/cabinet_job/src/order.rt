@@ -1,0 +1,272 @@
+// The candidates in order of their exact distances, each of which is read only when it is asked for.
+ghost use mathlib.Core.Path.{_≡_};
+ghost use Prim.Native.Nat.{_*_, _^_, _<_, _≤_};
+ghost use lib.ListN.{length};
+ghost use Rattle.words.specs.Limits.{mostPlaces};
+use crate::decimal;
+use crate::fault;
+use crate::fault::Fault;
+use crate::fault::Outcome;
+
+const ASK: u32 = 1;
+
+const GIVE: u32 = 2;
+
+// Number i of s, and 0 where s has no such number.
+fn number_at(s: &[u8], i: u32) -> u32 {
+    let at = 4 * (i as usize);
+    if at + 4 <= s.len() {
+        words::u32_at(s, at)
+    } else {
+        0
+    }
+}
+
+// Float i of s, and 0 where s has no such float.
+fn float_at(s: &[u8], i: u32) -> f32 {
+    let at = i as usize;
+    if 4 * at + 4 <= s.len() {
+        words::f32_at(s, at)
+    } else {
+        0.0
+    }
+}
+
+// The record of a place. A walk counts from the first record of its block, and the blocks before it had 32 records each.
+fn record_of(ids: &[u8], place: u32) -> u64
+    ensures { λ r. ⌜ r < 2 ^ 33 ⌝ }
+{
+    (place / 32 * 32) as u64 + number_at(ids, place) as u64
+}
+
+// What one call of the reranker led to: a distance was read, a candidate was given, or neither and the outcome says why.
+struct Turned {
+    read: bool,
+    given: bool,
+    outcome: Outcome,
+}
+
+fn stopped(f: Fault) -> Turned {
+    Turned {
+        read: false,
+        given: false,
+        outcome: Outcome::Stop(f),
+    }
+}
+
+// The distance that was asked for is read and supplied. One that is below its lower bound would break the order.
+fn supply(
+    fd: i32,
+    ids: &[u8],
+    bounds: &[u8],
+    distances: &mut [u8],
+    marks: &mut [u8],
+    place: u32,
+) -> Turned {
+    let at = record_of(ids, place);
+    let mut four = [0u8; 4];
+    if libc::pread(fd, &mut four, (4 * at) as i64) != 4 {
+        return stopped(Fault::Unread(at));
+    }
+    let d = words::f32_at(&four, 0);
+    let mut count = [0u8; 4];
+    let refused = rerank::supply(bounds, distances, marks, place, d, &mut count);
+    if refused != 0 {
+        return stopped(Fault::Distance(at, refused));
+    }
+    if d < float_at(bounds, place) {
+        return stopped(Fault::Below(at));
+    }
+    Turned {
+        read: true,
+        given: false,
+        outcome: Outcome::Fine,
+    }
+}
+
+// One call of the reranker, and what it asks for. The place and the distance of its answer go to given, where a Give leaves them.
+fn turn(
+    fd: i32,
+    ids: &[u8],
+    bounds: &[u8],
+    distances: &mut [u8],
+    marks: &mut [u8],
+    given: &mut [u8],
+) -> Turned
+    requires { ⌜ length (now given) ≡ 8 ⌝ }
+{
+    let mut out = [0u8; 16];
+    let refused = rerank::next(bounds, distances, marks, &mut out);
+    if refused != 0 {
+        return stopped(Fault::Lists(refused));
+    }
+    let answer = words::u32_at(&out, 0);
+    words::put_bytes(given, 0, &out[4..12]);
+    if answer == ASK {
+        return supply(fd, ids, bounds, distances, marks, words::u32_at(&out, 4));
+    }
+    Turned {
+        read: false,
+        given: answer == GIVE,
+        outcome: Outcome::Fine,
+    }
+}
+
+fn print_given(ids: &[u8], rank: u64, place: u32, bits: u32) {
+    io::print_decimal(1, rank);
+    io::write_all(1, b". record ");
+    io::print_decimal(1, record_of(ids, place));
+    io::write_all(1, b" at ");
+    decimal::print_float(bits);
+    io::write_all(1, b"\n");
+}
+
+fn print_all(ids: &[u8], given: &[u8], n: usize)
+    requires { ⌜ 8 * n ≤ length (now given) ⌝ }
+{
+    let mut i = 0usize;
+    while i < n {
+        let at = 8 * i;
+        print_given(
+            ids,
+            i as u64 + 1,
+            words::u32_at(given, at),
+            words::u32_at(given, at + 4),
+        );
+        i += 1;
+    }
+}
+
+// How many candidates still wait: their distances were never read.
+fn waiting(marks: &[u8]) -> usize {
+    let mut n = 0usize;
+    let mut i = 0usize;
+    while i < marks.len() {
+        if marks[i] == 0 {
+            n += 1;
+        }
+        i += 1;
+    }
+    n
+}
+
+fn print_tally(candidates: usize, given: usize, read: usize, spared: usize) {
+    io::print_decimal(1, given as u64);
+    io::write_all(1, b" of ");
+    io::print_decimal(1, candidates as u64);
+    io::write_all(1, b" candidates given, ");
+    io::print_decimal(1, read as u64);
+    io::write_all(1, b" distances read, ");
+    io::print_decimal(1, spared as u64);
+    io::write_all(1, b" spared\n");
+}
+
+// How many candidates were given, how many distances read, and how it ended.
+pub struct Ranked {
+    pub given: usize,
+    pub read: usize,
+    pub outcome: Outcome,
+}
+
+// Calls the reranker until as many as wanted are given. A list of n takes n distances and n gives.
+fn give(
+    fd: i32,
+    wanted: usize,
+    ids: &[u8],
+    bounds: &[u8],
+    distances: &mut [u8],
+    marks: &mut [u8],
+    given: &mut [u8],
+) -> Ranked
+    requires { ⌜ (8 * wanted ≤ length (now given)) × (length (now marks) ≤ mostPlaces) ⌝ }
+    ensures { λ r. ⌜ r .given ≤ wanted ⌝ }
+{
+    let turns = 2 * marks.len();
+    let mut t = 0usize;
+    let mut g = 0usize;
+    let mut r = 0usize;
+    while t < turns {
+        if g == wanted {
+            break;
+        }
+        let at = 8 * g;
+        let end = at + 8;
+        let s = turn(fd, ids, bounds, distances, marks, &mut given[at..end]);
+        if s.read {
+            r += 1;
+        } else if s.given {
+            g += 1;
+        } else {
+            let o = s.outcome;
+            return Ranked {
+                given: g,
+                read: r,
+                outcome: o,
+            };
+        }
+        t += 1;
+    }
+    Ranked {
+        given: g,
+        read: r,
+        outcome: Outcome::Fine,
+    }
+}
+
+fn least(a: u32, b: usize) -> usize
+    ensures { λ r. ⌜ r ≤ b ⌝ }
+{
+    let x = a as usize;
+    if x < b { x } else { b }
+}
+
+// The first n places of the lists are the candidates.
+pub fn rank(fd: i32, wanted: u32, n: usize, ids: &[u8], bounds: &[u8], marks: &mut [u8]) -> Outcome
+    requires { ⌜ n ≤ mostPlaces ⌝ }
+    requires { ⌜ (length (now ids) ≡ 16384) × (length (now bounds) ≡ 16384) × (length (now marks) ≡ mostPlaces) ⌝ }
+{
+    let four = 4 * n;
+    if libc::lseek(fd, 0, libc::SEEK_END) != four as i64 {
+        return Outcome::Stop(Fault::Floats);
+    }
+    let mut distances = [0u8; 16384];
+    answer(
+        fd,
+        wanted,
+        &ids[0..four],
+        &bounds[0..four],
+        &mut distances[0..four],
+        &mut marks[0..n],
+    )
+}
+
+// Nothing is printed before the end, so that a damaged file gets no part of a ranking.
+fn answer(
+    fd: i32,
+    wanted: u32,
+    ids: &[u8],
+    bounds: &[u8],
+    distances: &mut [u8],
+    marks: &mut [u8],
+) -> Outcome
+    requires { ⌜ length (now marks) ≤ mostPlaces ⌝ }
+{
+    let n = marks.len();
+    let mut given = [0u8; 32768];
+    let got = give(
+        fd,
+        least(wanted, n),
+        ids,
+        bounds,
+        distances,
+        marks,
+        &mut given,
+    );
+    let o = got.outcome;
+    if fault::stops(o) {
+        return o;
+    }
+    print_all(ids, &given, got.given);
+    print_tally(n, got.given, got.read, waiting(marks));
+    Outcome::Fine
+}

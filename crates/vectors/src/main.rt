@@ -1,0 +1,136 @@
+// Replays a list of answers and compares. Its argument names the list: one call to a line, blank lines and lines that begin with # aside.
+//
+//     digits_pack 3 4 [010203] [eeee] = 0 [2103]
+//
+// A line has the call's name in include/lintelkite.h without lk_; its parameters in the header's order; =; the number that it
+// returns; and the buffers that it writes, as it leaves them. A number is decimal, or hexadecimal after 0x; a float is its bits. A
+// buffer is its bytes in hexadecimal between brackets; one that is written stands among the parameters with what it held before.
+ghost use mathlib.Core.Path.{_≡_};
+ghost use Prim.Native.Nat.{_≤_};
+ghost use lib.ListN.{length};
+
+mod calls;
+mod line;
+
+const MOST_TEXT: usize = 262144;
+
+// One more, up to the largest.
+fn more(n: u64) -> u64 {
+    if n < 0xFFFF_FFFF_FFFF_FFFF { n + 1 } else { n }
+}
+
+fn count_at(counts: &mut [u64], i: usize) {
+    if i < counts.len() {
+        counts[i] = more(counts[i]);
+    }
+}
+
+// Where the line from `from` on ends: at a line feed, or at the text's end.
+fn line_end(text: &[u8], from: usize) -> usize
+    requires { ⌜ from ≤ length (now text) ⌝ }
+    ensures { λ r. ⌜ (from ≤ r) × (r ≤ length (now (text .entry))) ⌝ }
+{
+    let mut to = from;
+    while to < text.len() {
+        if text[to] == b'\n' {
+            return to;
+        }
+        to += 1;
+    }
+    to
+}
+
+fn say_wrong(verdict: u8, at: u64) {
+    io::write_all(1, b"line ");
+    io::print_decimal(1, at);
+    match verdict {
+        line::NUMBER => io::write_all(1, b": the number differs\n"),
+        line::BYTES => io::write_all(1, b": the bytes differ\n"),
+        _ => io::write_all(1, b": no such call, or parameters that it doesn't have\n"),
+    }
+    ;
+}
+
+// One line: its call is counted, and counted as agreeing if it does.
+fn one(text: &[u8], at: u64, seen: &mut [u64], agreed: &mut [u64]) {
+    if text.len() == 0 {
+        return;
+    }
+    if text[0] == b'#' {
+        return;
+    }
+    let which = calls::which(line::name(text));
+    let verdict = line::replay(which, text);
+    count_at(seen, which);
+    if verdict == line::AGREES {
+        count_at(agreed, which);
+    } else {
+        say_wrong(verdict, at);
+    }
+}
+
+fn all(text: &[u8], seen: &mut [u64], agreed: &mut [u64]) {
+    let mut from = 0usize;
+    let mut at: u64 = 1;
+    while from < text.len() {
+        let to = line_end(text, from);
+        one(&text[from..to], at, seen, agreed);
+        from = to + 1;
+        at = more(at);
+    }
+}
+
+fn print_tally(which: usize, seen: &[u64], agreed: &[u64]) {
+    if which < seen.len() {
+        if which < agreed.len() {
+            calls::print_name(which);
+            io::write_all(1, b": ");
+            io::print_decimal(1, agreed[which]);
+            io::write_all(1, b" of ");
+            io::print_decimal(1, seen[which]);
+            io::write_all(1, b" agree\n");
+        }
+    }
+}
+
+fn print_tallies(seen: &[u64], agreed: &[u64]) {
+    for which in 0usize..calls::COUNT {
+        print_tally(which, seen, agreed);
+    }
+}
+
+// Room for the list. The contract gives the length alone, so that no proof writes out the zeros.
+fn room() -> [u8; 262144]
+    ensures { λ r. ⌜ 262144 ≡ length r ⌝ }
+{
+    [0; 262144]
+}
+
+fn read_and_replay(fd: i32) {
+    let mut text = room();
+    let n = io::read_full(fd, &mut text);
+    if n == MOST_TEXT {
+        io::write_all(1, b"the list is too long\n");
+        return;
+    }
+    let mut seen = [0u64; calls::COUNT];
+    let mut agreed = [0u64; calls::COUNT];
+    all(&text[..n], &mut seen, &mut agreed);
+    print_tallies(&seen, &agreed);
+}
+
+fn main() {
+    let mut path = io::buffer();
+    let n = os::arg(1, &mut path);
+    if os::errno() != 0 {
+        io::write_all(1, b"usage: vectors LIST\n");
+        return;
+    }
+    let fd = os::open_read(&path[..n]);
+    if fd < 0 {
+        io::write_all(1, b"the list can't be opened\n");
+        return;
+    }
+    read_and_replay(fd);
+    libc::close(fd);
+}

@@ -1,2 +1,0 @@
-pub mod Demand1Laws
-pub mod TableLaws

@@ -1,2 +1,0 @@
-pub mod Demand1
-pub mod Table

@@ -2,7 +2,7 @@
 ghost use mathlib.Core.Path.{_≡_};
 ghost use Prim.Native.Nat.{_≤_};
 ghost use lib.ListN.{length};
-ghost use Rattle.words.specs.Bytes.{numAt};
+ghost use Rattle.words.specs.Bytes.{numAt, f32At};
 ghost use Rattle.words.specs.Limits.{mostDims};
 ghost use Rattle.cabinet_job.specs.Job.{mostBlock};
 use crate::fault;
@@ -22,9 +22,8 @@ pub struct Header {
 
 fn header_of(s: &[u8]) -> Header
     requires { ⌜ length (now s) ≡ 32 ⌝ }
-    ensures metric { λ r. ⌜ r .metric ≡ numAt 4 (now (s .entry)) 8 ⌝ }
-    ensures dims { λ r. ⌜ r .dims ≡ numAt 4 (now (s .entry)) 12 ⌝ }
-    ensures n { λ r. ⌜ r .n ≡ numAt 4 (now (s .entry)) 16 ⌝ }
+    ensures { λ r. ⌜ (r .metric ≡ numAt 4 (now (s .entry)) 8) × (r .dims ≡ numAt 4 (now (s .entry)) 12) × (r .n ≡ numAt 4 (now (s .entry)) 16) ⌝ }
+    ensures { λ r. ⌜ (r .v .«dis_v_2» ≡ f32At (now (s .entry)) 5) × (r .v .b ≡ f32At (now (s .entry)) 6) × (r .v .k ≡ f32At (now (s .entry)) 7) ⌝ }
 {
     let v = Query {
         dis_v_2: words::f32_at(s, 5),

@@ -174,7 +174,7 @@ demand-1 =
           let number = walk.walkNumber metric layout dims v query records n start end ids bounds marks count in
           record {
             listed = joint _ _
-                (queried dims (ltb mostRecords n || walk.badRecords layout dims n records || walk.badLists ids bounds marks count) v query
+                (queried dims (walk.badLengths layout dims n (length records) (walk.badLists (length ids) (length bounds) (length marks) (length count))) v query
                 (badForm metric || badForm layout) (at refl) (at refl) (at refl) (at refl) (at refl))
                 (joint _ _ (row (walk.outOfRange n start end) (at refl) (row (ltb (length marks) (end - start)) (at refl) (at refl)))
                 (row (anyBelow (end - start) (λ j. isNan (walk.boundOf (walk.layoutOf layout) (metricOf metric) v query records (start + j)))) (at refl)

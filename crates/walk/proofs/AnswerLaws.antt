@@ -21,7 +21,7 @@ use Rattle.estimate.specs.declared.Query.{Query}
 use Rattle.estimate.specs.Calls.{queryNumber}
 use Rattle.estimate.proofs.CallLaws.{accepted, length-is}
 use Rattle.walk.proofs.WalkLaws.{range-inside}
-use Rattle.walk.specs.Walk.{layoutOf, recordsSize, badRecords, badLists, outOfRange, rangeNumber, boundOf, boundWords, walkNumber, walkAnswer}
+use Rattle.walk.specs.Walk.{layoutOf, recordsSize, badRecords, badLists, badLengths, outOfRange, rangeNumber, boundOf, boundWords, walkNumber, walkAnswer}
 
 -- ---- the range
 
@@ -40,22 +40,21 @@ empty-inside n start end places h =
     rw (le-ltb start end h, le-ltb places (end - start) z) refl
 
 module _ (metric layout dims : ℕ) (v : Query) (qs rs : List ℕ) (n start end : ℕ) (ids bounds marks count : List ℕ) where
+  abbrev pub lists : Bool
+  lists = badLists (length ids) (length bounds) (length marks) (length count)
+
   abbrev pub otherLengths : Bool
-  otherLengths = ltb mostRecords n || badRecords layout dims n rs || badLists ids bounds marks count
+  otherLengths = badLengths layout dims n (length rs) lists
 
   -- the refusals 1 to 5
   unfoldable pub firstNumber : ℕ
   firstNumber = queryNumber dims otherLengths v qs (badForm metric || badForm layout)
 
   -- as the code's tests give them
-  pub judged : (r : ℕ) (lists : Bool)
-      → lists ≡
-      (ltb mostPlaces (length marks) || not (eqb (length ids) (4 * length marks)) || not (eqb (length bounds) (4 * length marks)) || not
-      (eqb (length count) 4))
-      → r ≡ queryNumber dims (ltb mostRecords n || (not (badForm layout) && not (eqb (length rs) (recordsSize (layoutOf layout) dims n))) || lists) v qs
-      (badForm metric || badForm layout) → r ≡ firstNumber
-  unfolding firstNumber badRecords badLists badLength
-  judged r lists el e = e ∙ rw el refl
+  pub judged : (r : ℕ) (tested : Bool) → tested ≡ lists
+      → r ≡ queryNumber dims (badLengths layout dims n (length rs) tested) v qs (badForm metric || badForm layout) → r ≡ firstNumber
+  unfolding firstNumber
+  judged r tested el e = e ∙ rw el refl
 
   -- what is known where there is none
   pub record Known : Type 0 where
@@ -68,11 +67,11 @@ module _ (metric layout dims : ℕ) (v : Query) (qs rs : List ℕ) (n start end 
     pub count-is : length count ≡ 4
 
   pub known : firstNumber ≡ 0 → Known
-  unfolding firstNumber badLists badRecords
+  unfolding firstNumber badLengths badLists badRecords badLength
   known e =
       let a = accepted dims otherLengths v qs (badForm metric || badForm layout) e in
-      let l = neither (ltb mostRecords n || badRecords layout dims n rs) (badLists ids bounds marks count) (a .others) in
-      let r = neither (ltb mostRecords n) (badRecords layout dims n rs) (l .0) in
+      let l = neither (ltb mostRecords n || badRecords layout dims n (length rs)) lists (a .others) in
+      let r = neither (ltb mostRecords n) (badRecords layout dims n (length rs)) (l .0) in
       let p3 = neither (ltb mostPlaces (length marks) || badLength ids (4 * length marks) || badLength bounds (4 * length marks)) (badLength count 4)
       (l .1) in
       let p2 = neither (ltb mostPlaces (length marks) || badLength ids (4 * length marks)) (badLength bounds (4 * length marks)) (p3 .0) in

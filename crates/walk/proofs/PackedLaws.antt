@@ -13,7 +13,7 @@ use Rattle.words.specs.Metrics.{metricOf}
 use Rattle.words.specs.Refusals.{badForm}
 use Rattle.words.specs.declared.Metric.{Metric}
 use Rattle.words.proofs.ListLaws.{joined-at, length-joined, length-tabulate, any-ext}
-use Rattle.words.proofs.RefusalLaws.{sized}
+use borrow.Author.Tests.{eq-eqb}
 use Rattle.words.proofs.WordsLaws.{words-ext}
 use Rattle.code.specs.Code.{codeSize}
 use Rattle.block.specs.Block.{blockSize, codeAt, packed, blockOf}
@@ -24,7 +24,7 @@ use Rattle.estimate.specs.Record.{codeEstimate, laneEstimate}
 use Rattle.estimate.proofs.CallLaws.{accepted}
 use Rattle.estimate.proofs.LaneLaws.{cleared-same, lane-is-code}
 use Rattle.walk.specs.declared.Layout.the-variants.{Single, Blocks}
-use Rattle.walk.specs.Walk.{layoutOf, recordOf, recordsSize, blocksOf, badRecords, rangeNumber, boundOf, boundWords, walkAnswer}
+use Rattle.walk.specs.Walk.{layoutOf, recordOf, recordsSize, blocksOf, badRecords, badLengths, rangeNumber, boundOf, boundWords, walkAnswer}
 use Rattle.walk.specs.Packed.{packedBlocks}
 use Rattle.walk.proofs.WalkLaws.{record-end, part-of-front}
 use Rattle.walk.proofs.AnswerLaws.{firstNumber, inside, someNan, first-number, range-number, nan-number, zero-number, walk-refused, walk-written}
@@ -107,8 +107,8 @@ module _ (metric dims : ℕ) (v : Query) (qs codes fill : List ℕ) (n start end
     -- both lengths are right, so the first tests are the same
     same-first : firstNumber metric 2 dims v qs blocks n start end ids bounds marks count
         ≡ firstNumber metric 1 dims v qs codes n start end ids bounds marks count
-    unfolding firstNumber badRecords badForm layoutOf recordsSize
-    same-first = rw (sized blocks (blocksOf n * blockSize dims) (length-blocks dims (codes ++ fill) (blocksOf n)), sized codes (n * codeSize dims) e) refl
+    unfolding firstNumber badLengths badRecords badForm layoutOf recordsSize
+    same-first = rw (eq-eqb _ _ (length-blocks dims (codes ++ fill) (blocksOf n)), eq-eqb _ _ e) refl
 
     module _ (ok : firstNumber metric 1 dims v qs codes n start end ids bounds marks count ≡ 0) where
       query-is : length qs ≡ dims

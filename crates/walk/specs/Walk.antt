@@ -9,7 +9,7 @@ use Rattle.words.specs.Bytes.{bytesOf, wordsOf}
 use Rattle.words.specs.Limits.{mostRecords, mostPlaces}
 use Rattle.words.specs.Lists.{anyBelow}
 use Rattle.words.specs.Metrics.{metricOf}
-use Rattle.words.specs.Refusals.{after, orElse, badLength, badForm}
+use Rattle.words.specs.Refusals.{after, orElse, badForm}
 use Rattle.words.specs.declared.Metric.{Metric}
 use Rattle.code.specs.Code.{codeSize}
 use Rattle.block.specs.Block.{blockSize}
@@ -50,14 +50,17 @@ boundOf Blocks m v qs rs i = laneEstimate LowerBound m v qs (recordOf (blockSize
 
 -- ---- refusals
 
--- a layout that is none states no length for the records
-unfoldable pub badRecords : ℕ → ℕ → ℕ → List ℕ → Bool
-badRecords layout dims n rs = not (badForm layout) && badLength rs (recordsSize (layoutOf layout) dims n)
+-- BAD_LENGTH, each buffer by its length. A layout that is none states no length for the records
+unfoldable pub badRecords : ℕ → ℕ → ℕ → ℕ → Bool
+badRecords layout dims n records = not (badForm layout) && not (eqb records (recordsSize (layoutOf layout) dims n))
 
 -- lists of one number of places, not too many, and a count of four bytes
-unfoldable pub badLists : List ℕ → List ℕ → List ℕ → List ℕ → Bool
-badLists ids bounds marks count =
-    ltb mostPlaces (length marks) || badLength ids (4 * length marks) || badLength bounds (4 * length marks) || badLength count 4
+unfoldable pub badLists : ℕ → ℕ → ℕ → ℕ → Bool
+badLists ids bounds marks count = ltb mostPlaces marks || not (eqb ids (4 * marks)) || not (eqb bounds (4 * marks)) || not (eqb count 4)
+
+-- too many records, or a buffer that isn't of its length
+unfoldable pub badLengths : ℕ → ℕ → ℕ → ℕ → Bool → Bool
+badLengths layout dims n records lists = ltb mostRecords n || badRecords layout dims n records || lists
 
 -- the range is not empty and its end is above the record count
 unfoldable pub outOfRange : ℕ → ℕ → ℕ → Bool
@@ -71,7 +74,8 @@ rangeNumber n start end places = cond (outOfRange n start end) 6 (cond (ltb plac
 unfoldable pub walkNumber : ℕ → ℕ → ℕ → Query → List ℕ → List ℕ → ℕ → ℕ → ℕ → List ℕ → List ℕ → List ℕ → List ℕ → ℕ
 walkNumber metric layout dims v qs rs n start end ids bounds marks count =
     orElse
-    (queryNumber dims (ltb mostRecords n || badRecords layout dims n rs || badLists ids bounds marks count) v qs (badForm metric || badForm layout))
+    (queryNumber dims (badLengths layout dims n (length rs) (badLists (length ids) (length bounds) (length marks) (length count))) v qs
+    (badForm metric || badForm layout))
     (orElse (rangeNumber n start end (length marks))
     (cond (anyBelow (end - start) (λ j. isNan (boundOf (layoutOf layout) (metricOf metric) v qs rs (start + j)))) 8 0))
 

@@ -1,22 +1,20 @@
 // Module 8: the range walk. The Rust's `flat_rerank_continue`.
 ghost use mathlib.Core.Path.{_≡_};
-ghost use mathlib.Core.Bool.{not, _&&_, _||_};
+ghost use mathlib.Core.Bool.{_||_};
 ghost use mathlib.Core.List.{_++_};
-ghost use Prim.Native.Nat.{ℕ, _+_, _-_, _*_, _/_, _<_, _≤_};
-ghost use lib.Dec.{eqb, ltb};
+ghost use Prim.Native.Nat.{_+_, _-_, _*_, _<_, _≤_};
 ghost use lib.Seq.{sets};
 ghost use lib.ListN.{length, take, drop, replicate};
 ghost use Rattle.words.specs.Bytes.{bytesOf, wordsOf};
-ghost use Rattle.words.specs.Limits.{mostDims, mostRecords, mostPlaces};
+ghost use Rattle.words.specs.Limits.{mostDims, mostPlaces};
 ghost use Rattle.words.specs.Refusals.{badForm};
-ghost use Rattle.code.specs.Code.{codeSize};
 ghost use Rattle.block.specs.Block.{blockSize};
 ghost use Rattle.sums.specs.Held as held;
 ghost use Rattle.sums.specs.Held.{Query as Codes};
 ghost use Rattle.estimate.specs.Calls.{queryNumber};
 ghost use Rattle.estimate.specs.Record.{laneWords, IsReady};
 ghost use Rattle.estimate.specs.declared.Asked.the-variants.{LowerBound};
-ghost use Rattle.walk.specs.Walk.{layoutOf, recordOf, blocksOf, recordsSize, boundOf, badRecords, badLists, outOfRange, rangeNumber, boundWords, walkAnswer};
+ghost use Rattle.walk.specs.Walk.{layoutOf, recordOf, badRecords, badLists, badLengths, outOfRange, rangeNumber, boundWords, walkAnswer};
 ghost use Rattle.walk.specs.Parts.{Range, BlockRange, roomOf};
 use estimate::Asked;
 use estimate::Query;
@@ -249,7 +247,7 @@ fn times(n: usize, size: usize) -> usize
 
 fn bad_records(layout: u32, dims: u32, n: u32, records: usize) -> bool
     requires { ⌜ dims ≤ mostDims ⌝ }
-    ensures { λ r. ⌜ r ≡ (not (badForm layout) && not (eqb records (recordsSize (layoutOf layout) dims n))) ⌝ }
+    ensures { λ r. ⌜ r ≡ badRecords layout dims n records ⌝ }
 {
     if layout == 1 {
         return records != times(n as usize, code::parts::size(dims as usize));
@@ -261,7 +259,7 @@ fn bad_records(layout: u32, dims: u32, n: u32, records: usize) -> bool
 }
 
 fn bad_lists(ids: usize, bounds: usize, marks: usize, count: usize) -> bool
-    ensures { λ r. ⌜ r ≡ (ltb mostPlaces marks || not (eqb ids (4 * marks)) || not (eqb bounds (4 * marks)) || not (eqb count 4)) ⌝ }
+    ensures { λ r. ⌜ r ≡ badLists ids bounds marks count ⌝ }
 {
     if MOST_PLACES < marks {
         return true;
@@ -277,7 +275,7 @@ fn bad_lists(ids: usize, bounds: usize, marks: usize, count: usize) -> bool
 
 fn bad_lengths(layout: u32, dims: u32, n: u32, records: usize, lists: bool) -> bool
     requires { ⌜ dims ≤ mostDims ⌝ }
-    ensures { λ r. ⌜ r ≡ (ltb mostRecords n || (not (badForm layout) && not (eqb records (recordsSize (layoutOf layout) dims n))) || lists) ⌝ }
+    ensures { λ r. ⌜ r ≡ badLengths layout dims n records lists ⌝ }
 {
     if MOST_RECORDS < n {
         return true;
@@ -308,9 +306,7 @@ fn judge(
     n: u32,
     lists: bool,
 ) -> u32
-    ensures { λ r. ⌜ r ≡ queryNumber dims
-        (ltb mostRecords n || (not (badForm layout) && not (eqb records (recordsSize (layoutOf layout) dims n))) || lists)
-        v (now (q .entry)) (badForm metric || badForm layout) ⌝ }
+    ensures { λ r. ⌜ r ≡ queryNumber dims (badLengths layout dims n records lists) v (now (q .entry)) (badForm metric || badForm layout) ⌝ }
 {
     if bad_dims(dims, MOST_DIMS) {
         return BAD_DIMS;

@@ -1,25 +1,30 @@
 -- `walk::bad_lists` meets its contract. Assumes nothing.
 use borrow.Author.Tests.{eq-eqb, ne-eqb, lt-ltb, le-ltb}
+use Rattle.walk.specs.Walk.{badLists}
 use borrow.Author.Needs.{needs}
 use Rattle.walk.proofs.bad_lists.Statement.{statement}
 use Rattle.walk.proofs.bad_lists.Tie as tie
 
 returns : tie.Need-returns
+unfolding badLists
 returns c = simp (lt-ltb _ _ (c .if1 .taken))
 
 mul-if2 : tie.Need-mul-if2
 mul-if2 c = search needs
 
 returns-2 : tie.Need-returns-2
+unfolding badLists
 returns-2 c = simp (le-ltb _ _ (c .before .if1 .left), ne-eqb _ _ (c .if2 .taken))
 
 mul-if3 : tie.Need-mul-if3
 mul-if3 c = search needs
 
 returns-3 : tie.Need-returns-3
+unfolding badLists
 returns-3 c = simp (le-ltb _ _ (c .before .before .if1 .left), eq-eqb _ _ (c .before .if2 .left), ne-eqb _ _ (c .if3 .taken))
 
 returns-4 : tie.Need-returns-4
+unfolding badLists
 returns-4 c = simp (le-ltb _ _ (c .before .before .if1 .left), eq-eqb _ _ (c .before .if2 .left), eq-eqb _ _ (c .if3 .left))
 
 pub bad-lists-spec : {M : Type 1} → statement M

@@ -2,7 +2,7 @@
 use mathlib.Core.Path.{refl}
 use borrow.Author.Tests.{eq-eqb, ne-eqb}
 use Rattle.words.specs.Refusals.{badForm}
-use Rattle.walk.specs.Walk.{layoutOf, recordsSize}
+use Rattle.walk.specs.Walk.{layoutOf, recordsSize, badRecords}
 use borrow.Author.Needs.{needs}
 use Rattle.walk.proofs.bad_records.Statement.{statement}
 use Rattle.walk.proofs.bad_records.Tie as tie
@@ -15,7 +15,7 @@ times-requires : tie.Need-times-requires
 times-requires c κs = search needs
 
 returns : tie.Need-returns
-unfolding badForm layoutOf recordsSize
+unfolding badRecords badForm layoutOf recordsSize
 returns c = simp (eq-eqb _ _ (c .before .before .if1 .taken)) (rw (c .times .ensures, c .before .size .ensures) refl)
 
 add-times : tie.Need-add-times
@@ -28,14 +28,14 @@ times-requires-2 : tie.Need-times-requires-2
 times-requires-2 c κs = search needs
 
 returns-2 : tie.Need-returns-2
-unfolding badForm layoutOf recordsSize
+unfolding badRecords badForm layoutOf recordsSize
 returns-2 c =
     let e2 = c .before .before in
     let e3 = e2 .before in
     simp (ne-eqb _ _ (e3 .if1 .left), eq-eqb _ _ (e2 .if2 .taken)) (rw (c .times2 .ensures, c .before .size2 .ensures) refl)
 
 returns-3 : tie.Need-returns-3
-unfolding badForm
+unfolding badRecords badForm
 returns-3 c = simp (ne-eqb _ _ (c .before .if1 .left), ne-eqb _ _ (c .if2 .left))
 
 pub bad-records-spec : {M : Type 1} → statement M

@@ -8,11 +8,15 @@ use native.Mathlib.Decide.{ℕ-discrete}
 use native.Mathlib.Omega.{arith}
 use lib.Ieee.{Float, lt}
 use Rattle.rerank.specs.Rerank.{State, answer, nextRefusal, supplyRefusal, given, supplied, Event, asked, supply, gave, done, Accepted, then, ran, Run}
-use Rattle.rerank.specs.Demand.{Fresh, Lower, Supplied}
+use Rattle.rerank.specs.Demand.{Lower, Supplied}
 use Rattle.rerank.specs.declared.Answer.the-variants.{Ask, Give}
 use Rattle.rerank.proofs.OrderLaws.{Num, Less, NotLess, false-of, true-false, less-asym, notLess-trans}
 use Rattle.rerank.proofs.LeastLaws.{put-here, put-else, at-or-else}
 use Rattle.rerank.proofs.RuleLaws.{Clean, next-clean, supply-clean, AskSays, GiveSays, means}
+
+-- ---- no candidate was asked for yet
+pub record Fresh (s : State) : Type 0 where
+  pub waits : (q : ℕ) → q < s .size → s .mark q ≡ 0
 
 -- ---- what an accepted call says of its place
 abbrev pub Supplying : State → ℕ → Float → Type 0

@@ -136,7 +136,13 @@ unfoldable pub tally : (Event → ℕ) → List Event → ℕ
 tally f [] = 0
 tally f (e ∷ es) = f e + tally f es
 
--- so these tell how often any place was supplied or given, and how often place p was
+-- so these tell how often any place was asked for, supplied or given, and how often place p was
+abbrev pub anAsk : Event → ℕ
+anAsk (asked q) = 1
+anAsk (supply q d) = 0
+anAsk (gave q d) = 0
+anAsk done = 0
+
 abbrev pub aSupply : Event → ℕ
 aSupply (asked q) = 0
 aSupply (supply q d) = 1
@@ -160,14 +166,3 @@ giveOf p (asked q) = 0
 giveOf p (supply q d) = 0
 giveOf p (gave q d) = cond (eqb p q) 1 0
 giveOf p done = 0
-
--- a caller that supplies what is asked for, from a table of distances, until Done or until its turns are used up: the events of its calls
-unfoldable pub drive : ℕ → (ℕ → Float) → State → List Event
-unfolding answer
-drive zero table s = []
-drive (suc n) table s =
-    elim (answer s) [
-      | Ask p ↦ asked p ∷ supply p (table p) ∷ drive n table (supplied s p (table p))
-      | Give p d ↦ gave p d ∷ drive n table (given s p)
-      | Done ↦ done ∷ []
-    ]

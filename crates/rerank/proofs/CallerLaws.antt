@@ -100,8 +100,8 @@ module _ (b : Lists) (g : Good b) (c : Clean (held b)) where
         refl,
         refl,
         told-is a (counted (stateOf (b .estimates) (b .distances) (answerMarks a (b .marks))))
-        (place-fits (b .estimates) (b .distances) (b .marks) room next-zero a h)
-        (λ p x q. distance-fits (b .estimates) (b .distances) (b .marks) room next-zero p x (h ∙ q)),
+            (place-fits (b .estimates) (b .distances) (b .marks) room next-zero a h)
+            (λ p x q. distance-fits (b .estimates) (b .distances) (b .marks) room next-zero p x (h ∙ q)),
       )
 
 slot : List ℕ

@@ -8,6 +8,7 @@ use native.Mathlib.Omega.{arith}
 use borrow.Author.Tests.{eqb-true, eq-eqb, leb-true, le-leb, not-false}
 use lib.Dec.{eqb, leb}
 use lib.Ieee.{Float, lt, isNan}
+use Rattle.words.specs.Limits.{mostMark}
 use Rattle.words.specs.Lists.{anyBelow}
 use Rattle.words.proofs.ListLaws.{none-at}
 use Rattle.words.proofs.RefusalLaws.{no-row, neither, none-bad}
@@ -21,7 +22,7 @@ use Rattle.rerank.proofs.LeastLaws.{Says, least-says}
 pub record Clean (s : State) : Type 0 where
   pub numbers : (q : ℕ) → q < s .size → Num (s .estimate q)
   pub held : (q : ℕ) → q < s .size → s .mark q ≡ 1 → Num (s .distance q)
-  pub bounded : (q : ℕ) → q < s .size → s .mark q ≤ 2
+  pub bounded : (q : ℕ) → q < s .size → s .mark q ≤ mostMark
 
 pub below-none : (n : ℕ) (f : ℕ → Bool) → ((q : ℕ) → q < n → f q ≡ false) → anyBelow n f ≡ false
 unfolding anyBelow
@@ -45,7 +46,7 @@ clean-of s m v =
     record {
       numbers = λ q h. place q h .0;
       held = λ q h e. asked-number (s .mark q) (isNan (s .distance q)) (place q h .1) e;
-      bounded = λ q h. leb-true (s .mark q) 2 (not-false (leb (s .mark q) 2) (none-at (λ i. not (leb (s .mark i) 2)) (s .size) v q h));
+      bounded = λ q h. leb-true (s .mark q) mostMark (not-false (leb (s .mark q) mostMark) (none-at (λ i. not (leb (s .mark i) mostMark)) (s .size) v q h));
     }
   where
     place : (q : ℕ) → q < s .size → Num (s .estimate q) × ((eqb (s .mark q) 1 && isNan (s .distance q)) ≡ false)
@@ -60,7 +61,9 @@ missing-no s c =
 
 pub badMark-no : (s : State) → Clean s → badMark s ≡ false
 unfolding badMark
-badMark-no s c = below-none (s .size) (λ i. not (leb (s .mark i) 2)) (λ q h. not-true (leb (s .mark q) 2) (le-leb (s .mark q) 2 (c .bounded q h)))
+badMark-no s c =
+    below-none (s .size) (λ i. not (leb (s .mark i) mostMark))
+    (λ q h. not-true (leb (s .mark q) mostMark) (le-leb (s .mark q) mostMark (c .bounded q h)))
 
 -- next is refused exactly where the state is not clean
 pub next-clean : (s : State) → nextRefusal s ≡ 0 → Clean s

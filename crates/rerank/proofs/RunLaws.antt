@@ -7,6 +7,7 @@ use Prim.Native.Nat.{ℕ, _<_, _≤_}
 use native.Mathlib.Decide.{ℕ-discrete}
 use native.Mathlib.Omega.{arith}
 use lib.Ieee.{Float, lt}
+use Rattle.words.specs.Limits.{mostMark}
 use Rattle.rerank.specs.Rerank.{State, answer, nextRefusal, supplyRefusal, given, supplied, Event, asked, supply, gave, done, Accepted, then, ran, Run}
 use Rattle.rerank.specs.Demand.{Lower, Supplied}
 use Rattle.rerank.specs.declared.Answer.the-variants.{Ask, Give}
@@ -88,7 +89,7 @@ clean-supplied s p d g =
       held = λ q. at-or-else (λ x. x < s .size → supplied s p d .mark x ≡ 1 → Num (supplied s p d .distance x)) p q
           (λ h e. rw (put-here (s .distance) p d) (g .1))
           (λ o h e. rw (put-else (s .distance) p d q o) (g .0 .held q h (sym (put-else (s .mark) p 1 q o) ∙ e)));
-      bounded = λ q. at-or-else (λ x. x < s .size → supplied s p d .mark x ≤ 2) p q
+      bounded = λ q. at-or-else (λ x. x < s .size → supplied s p d .mark x ≤ mostMark) p q
           (λ h. omega (arith, put-here (s .mark) p 1)) (λ o h. omega (arith, put-else (s .mark) p 1 q o, g .0 .bounded q h));
     }
 
@@ -97,7 +98,7 @@ clean-given s p d g =
     record {
       numbers = g .0 .numbers;
       held = λ q h e. g .0 .held q h (given-asked s p q e);
-      bounded = λ q. at-or-else (λ x. x < s .size → given s p .mark x ≤ 2) p q
+      bounded = λ q. at-or-else (λ x. x < s .size → given s p .mark x ≤ mostMark) p q
           (λ h. omega (arith, put-here (s .mark) p 2)) (λ o h. omega (arith, put-else (s .mark) p 2 q o, g .0 .bounded q h));
     }
 

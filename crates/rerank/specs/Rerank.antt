@@ -6,6 +6,7 @@ use mathlib.Core.Option.{Option, none, some}
 use Prim.Native.Nat.{ℕ, zero, suc, _+_, _<_}
 use lib.Dec.{leb, eqb}
 use lib.Ieee.{Float, lt, isNan}
+use Rattle.words.specs.Limits.{mostMark}
 use Rattle.words.specs.Lists.{anyBelow}
 use Rattle.words.specs.Sums.{sumTo}
 use Rattle.rerank.specs.declared.Answer.{Answer}
@@ -63,7 +64,7 @@ asksFor (Ask q) p = eqb p q
 asksFor (Give q d) p = false
 asksFor Done p = false
 
--- ---- refusals: MISSING is a NaN estimate at any place or a NaN distance at an asked one, BAD_VALUE a mark above 2
+-- ---- refusals: MISSING is a NaN estimate at any place or a NaN distance at an asked one, BAD_VALUE a mark above the greatest
 
 unfoldable pub missingAt : State → ℕ → Bool
 missingAt s i = isNan (s .estimate i) || (eqb (s .mark i) 1 && isNan (s .distance i))
@@ -74,7 +75,7 @@ missing s = anyBelow (s .size) (missingAt s)
 
 unfoldable pub badMark : State → Bool
 unfolding anyBelow
-badMark s = anyBelow (s .size) (λ i. not (leb (s .mark i) 2))
+badMark s = anyBelow (s .size) (λ i. not (leb (s .mark i) mostMark))
 
 unfoldable pub nextRefusal : State → ℕ
 unfolding missing badMark

@@ -9,7 +9,7 @@ use lib.Seq.{sets, length-sets}
 use lib.Ieee.{ofBits, binary32}
 use Rattle.words.specs.Bytes.{f32At, floatBytes}
 use Rattle.words.specs.Refusals.{after, badLength}
-use Rattle.rerank.specs.Rerank.{State, answer, supplied, given, counted, Event, asked, supply, gave, done, Accepted, then, Run, tally, anAsk, aSupply}
+use Rattle.rerank.specs.Rerank.{State, answerOf, supplied, given, counted, Event, asked, supply, gave, done, Accepted, then, Run, tally, anAsk, aSupply}
 use Rattle.rerank.specs.Calls.{stateOf, badLists, answerMarks, nextNumber, nextAnswer, supplyNumber, supplyAnswer}
 use Rattle.rerank.specs.Demand.{Lists, Call, next, supplies, fresh, held, call, told, seen, left, numbers, heard, reply, turn, turns, Finishes}
 use Rattle.rerank.specs.declared.Answer.{Answer}
@@ -92,7 +92,7 @@ module _ (b : Lists) (g : Good b) (c : Clean (held b)) where
   unfolding nextNumber badLength room
   next-zero = rw (g, clean-next (held b) c)
 
-  next-is : (a : Answer) → answer (held b) ≡ a → (call b (next room) .number ≡ 0)
+  next-is : (a : Answer) → answerOf (held b) ≡ a → (call b (next room) .number ≡ 0)
       × (call b (next room) .lists ≡ marked b (answerMarks a (b .marks))) × (told (call b (next room) .out) ≡ eventOf a)
   unfolding call nextAnswer after
   next-is a h =
@@ -115,7 +115,7 @@ stored b p bits =
       marks = set (b .marks) p 1;
     }
 
-module _ (b : Lists) (g : Good b) (c : Clean (held b)) (p bits : ℕ) (v : Num (ofBits binary32 bits)) (h : answer (held b) ≡ Ask p) where
+module _ (b : Lists) (g : Good b) (c : Clean (held b)) (p bits : ℕ) (v : Num (ofBits binary32 bits)) (h : answerOf (held b) ≡ Ask p) where
   supply-zero : supplyNumber (b .estimates) (b .distances) (b .marks) p (ofBits binary32 bits) slot ≡ 0
   unfolding supplyNumber badLength slot
   supply-zero = rw (g, clean-supply (held b) p (ofBits binary32 bits) c v h)
@@ -137,7 +137,7 @@ abbrev still : ℕ → ℕ
 still m = 2 - m
 
 -- one call and no reply
-module _ (table : ℕ → ℕ) (b : Lists) (g : Good b) (c : Clean (held b)) (a : Answer) (h : answer (held b) ≡ a) (quiet : reply table (eventOf a) ≡ []) where
+module _ (table : ℕ → ℕ) (b : Lists) (g : Good b) (c : Clean (held b)) (a : Answer) (h : answerOf (held b) ≡ a) (quiet : reply table (eventOf a) ≡ []) where
   quiet-turn : turn table b ≡ next room ∷ []
   unfolding turn room
   quiet-turn = rw (next-is b g c a h .2, quiet)
@@ -155,7 +155,7 @@ module _ (table : ℕ → ℕ) (b : Lists) (g : Good b) (c : Clean (held b)) (a 
   quiet-left = next-is b g c a h .1
 
 -- an Ask, and the distance for it
-module _ (table : ℕ → ℕ) (b : Lists) (g : Good b) (c : Clean (held b)) (p : ℕ) (v : Num (ofBits binary32 (table p))) (h : answer (held b) ≡ Ask p) where
+module _ (table : ℕ → ℕ) (b : Lists) (g : Good b) (c : Clean (held b)) (p : ℕ) (v : Num (ofBits binary32 (table p))) (h : answerOf (held b) ≡ Ask p) where
   both : List Call
   both = next room ∷ supplies p (table p) slot ∷ []
 
@@ -182,10 +182,10 @@ closes : (table : ℕ → ℕ) (k : ℕ) (b : Lists) → Good b → Clean (held 
     → total still (held b) + 1 ≡ k → Closes b (turns k table b)
 unfolding turns
 closes table zero b g c num e = absurd (omega arith)
-closes table (suc k) b g c num e = go (λ t. closes table k t) (answer (held b)) refl
+closes table (suc k) b g c num e = go (λ t. closes table k t) (answerOf (held b)) refl
   where
     go : ((t : Lists) → Good t → Clean (held t) → ((q : ℕ) → q < length (t .marks) → Num (ofBits binary32 (table q)))
-        → total still (held t) + 1 ≡ k → Closes t (turns k table t)) → (a : Answer) → answer (held b) ≡ a
+        → total still (held t) + 1 ≡ k → Closes t (turns k table t)) → (a : Answer) → answerOf (held b) ≡ a
         → Closes b (turn table b ++ turns k table (left b (turn table b)))
     go again (Ask p) h =
         let m = means (held b) c (Ask p) h in

@@ -8,7 +8,7 @@ use native.Mathlib.Decide.{ℕ-discrete}
 use native.Mathlib.Omega.{arith}
 use lib.Ieee.{Float, lt}
 use Rattle.words.specs.Limits.{mostMark}
-use Rattle.rerank.specs.Rerank.{State, answer, nextRefusal, supplyRefusal, given, supplied, Event, asked, supply, gave, done, Accepted, then, ran, Run}
+use Rattle.rerank.specs.Rerank.{State, answerOf, nextRefusal, supplyRefusal, given, supplied, Event, asked, supply, gave, done, Accepted, then, ran, Run}
 use Rattle.rerank.specs.Demand.{Lower, Supplied}
 use Rattle.rerank.specs.declared.Answer.the-variants.{Ask, Give}
 use Rattle.rerank.proofs.OrderLaws.{Num, Less, NotLess, false-of, true-false, less-asym, notLess-trans}
@@ -29,7 +29,7 @@ supplying s p d e = let a = supply-clean s p d e in (a .0, a .1, means s (a .0) 
 abbrev pub Giving : State → ℕ → Float → Type 0
 Giving s p d = Clean s × GiveSays s p d
 
-pub giving : (s : State) (p : ℕ) (d : Float) → (nextRefusal s ≡ 0) × (answer s ≡ Give p d) → Giving s p d
+pub giving : (s : State) (p : ℕ) (d : Float) → (nextRefusal s ≡ 0) × (answerOf s ≡ Give p d) → Giving s p d
 giving s p d e = let c = next-clean s (e .0) in (c, means s c (Give p d) (e .1))
 
 -- ---- a run cut in two

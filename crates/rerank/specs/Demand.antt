@@ -8,7 +8,8 @@ use lib.ListN.{length, replicate}
 use lib.Ieee.{Float, lt, isNan, ofBits, binary32}
 use Rattle.words.specs.Bytes.{numAt, f32At}
 use Rattle.words.specs.Sums.{sumTo}
-use Rattle.rerank.specs.Rerank.{State, answer, supplyRefusal, Event, asked, supply, gave, done, ran, Run, tally, anAsk, aSupply, aGive, supplyOf, giveOf}
+use Rattle.rerank.specs.Rerank.{State, answerOf, supplyRefusal, Event, asked, supply, gave, done, ran, Run}
+use Rattle.rerank.specs.Rerank.{tally, anAsk, aSupply, aGive, supplyOf, giveOf}
 use Rattle.rerank.specs.Calls.{stateOf, badLists, nextAnswer, supplyAnswer}
 use Rattle.rerank.specs.declared.Answer.the-variants.{Ask}
 
@@ -31,7 +32,7 @@ pub record Supplied (p : ℕ) (d : Float) (es : List Event) : Type 0 where
 -- with or without the premise
 pub record Always (s : State) (es : List Event) : Type 0 where
   -- one by one: in each state only the place that Ask names can be supplied
-  pub one-by-one : (fs gs : List Event) (p : ℕ) (d : Float) → es ≡ fs ++ gs → supplyRefusal (ran s fs) p d ≡ 0 → answer (ran s fs) ≡ Ask p
+  pub one-by-one : (fs gs : List Event) (p : ℕ) (d : Float) → es ≡ fs ++ gs → supplyRefusal (ran s fs) p d ≡ 0 → answerOf (ran s fs) ≡ Ask p
   -- exact: what is handed out is the distance that was supplied for it
   pub exact : (fs gs : List Event) (p : ℕ) (d : Float) → es ≡ fs ++ (gave p d ∷ gs) → Supplied p d fs
   -- when one is handed out at d, every candidate with an estimate below d has been asked for

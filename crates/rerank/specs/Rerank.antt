@@ -38,7 +38,8 @@ unfolding better
 least k f marks zero = none
 least k f marks (suc i) = let b = least k f marks i in cond (eqb (marks i) k) (better f i b) b
 
--- the same as a relation: no other value is below p's, and p's is below those of the places before it
+-- the same as a relation: no other value is below p's, and p's is below those of the places before it. `least` gives a place of which this
+-- holds, and none where no place has the mark (`least-says` of proofs/LeastLaws, for values that are no NaN)
 pub record IsLeast (k : ℕ) (f : ℕ → Float) (marks : ℕ → ℕ) (n p : ℕ) : Type 0 where
   pub inside : p < n
   pub marked : marks p ≡ k
@@ -54,9 +55,10 @@ choose s none (some a) = Give a (s .distance a)
 choose s (some w) none = Ask w
 choose s (some w) (some a) = cond (lt (s .estimate w) (s .distance a)) (Ask w) (Give a (s .distance a))
 
-unfoldable pub answer : State → Answer
+-- what the rule answers in a state
+unfoldable pub answerOf : State → Answer
 unfolding choose least
-answer s = choose s (least 0 (s .estimate) (s .mark) (s .size)) (least 1 (s .distance) (s .mark) (s .size))
+answerOf s = choose s (least 0 (s .estimate) (s .mark) (s .size)) (least 1 (s .distance) (s .mark) (s .size))
 
 -- a place is now asked for exactly when the answer would be Ask of it
 unfoldable pub asksFor : Answer → ℕ → Bool
@@ -82,8 +84,8 @@ unfolding missing badMark
 nextRefusal s = cond (missing s) 4 (cond (badMark s) 5 0)
 
 unfoldable pub supplyRefusal : State → ℕ → Float → ℕ
-unfolding missing badMark asksFor answer
-supplyRefusal s p d = cond (missing s || isNan d) 4 (cond (badMark s) 5 (cond (asksFor (answer s) p) 0 9))
+unfolding missing badMark asksFor answerOf
+supplyRefusal s p d = cond (missing s || isNan d) 4 (cond (badMark s) 5 (cond (asksFor (answerOf s) p) 0 9))
 
 -- ---- what an accepted call leaves, and the count that it reports
 
@@ -111,10 +113,10 @@ pub data Event : Type 0 where
 
 -- in the state s the call is accepted, and next answers so
 unfoldable pub Accepted : State → Event → Type 0
-Accepted s (asked p) = (nextRefusal s ≡ 0) × (answer s ≡ Ask p)
+Accepted s (asked p) = (nextRefusal s ≡ 0) × (answerOf s ≡ Ask p)
 Accepted s (supply p d) = supplyRefusal s p d ≡ 0
-Accepted s (gave p d) = (nextRefusal s ≡ 0) × (answer s ≡ Give p d)
-Accepted s done = (nextRefusal s ≡ 0) × (answer s ≡ Done)
+Accepted s (gave p d) = (nextRefusal s ≡ 0) × (answerOf s ≡ Give p d)
+Accepted s done = (nextRefusal s ≡ 0) × (answerOf s ≡ Done)
 
 unfoldable pub then : State → Event → State
 then s (asked p) = s

@@ -9,7 +9,7 @@ use lib.Ieee.{binary32, nanBits}
 use Rattle.words.specs.Bytes.{numAt}
 use Rattle.words.specs.Limits.{mostMark}
 use Rattle.words.specs.Sums.{sumTo}
-use Rattle.rerank.specs.Rerank.{answer, nextRefusal, counted}
+use Rattle.rerank.specs.Rerank.{answerOf, nextRefusal, counted}
 use Rattle.rerank.specs.Calls.{stateOf, badLists}
 use Rattle.rerank.specs.declared.Keys.{Keys}
 use Rattle.rerank.specs.declared.Counts.{Counts}
@@ -94,7 +94,7 @@ pub record Accepting (e d m : List ℕ) (s : Scan) : Type 0 where
 -- what a call on the lists is refused with, or the answer and the count
 pub record Ruled (e d m : List ℕ) (r : Ruling) : Type 0 where
   pub refusal : r .refused ≡ nextRefusal (stateOf e d m)
-  pub says : r .refused ≡ 0 → (r .answer ≡ answer (stateOf e d m)) × (r .count ≡ counted (stateOf e d m))
+  pub says : r .refused ≡ 0 → (r .answer ≡ answerOf (stateOf e d m)) × (r .count ≡ counted (stateOf e d m))
 
 -- r is the first place from `from` on whose key this is, and n where there is none
 pub record FirstAt (g : ℕ → ℕ) (from n key r : ℕ) : Type 0 where

@@ -8,7 +8,7 @@ ghost use lib.Dec.{eqb, ltb};
 ghost use lib.ListN.{length};
 ghost use Rattle.words.specs.Bytes.{bytesOf, floatBytes};
 ghost use Rattle.words.specs.Limits.{mostPlaces};
-ghost use Rattle.rerank.specs.Rerank.{answer, asksFor};
+ghost use Rattle.rerank.specs.Rerank.{answerOf, asksFor};
 ghost use Rattle.rerank.specs.Calls.{stateOf, badLists, nextAnswer, supplyAnswer, answerBytes, answerMarks};
 ghost use Rattle.rerank.specs.Scan.{keyOf, noKey, keyIf, lesser, keyAt, nanOne, lacks, aboveMost, notZero, KeysTo, CountsOf, WithBlock, ScanTo, FirstAt};
 ghost use Rattle.rerank.specs.Scan.{Accepting, Ruled};
@@ -240,7 +240,7 @@ fn bad_lists(e: &[u8], d: &[u8], m: &[u8]) -> bool
 // What the rule says, by what the scan found. NO_KEY is above every key, so that no test for an empty set is needed before the first.
 fn choose(e: &[u8], d: &[u8], m: &[u8], s: Scan) -> Answer
     requires { ⌜ Accepting (now e) (now d) (now m) s ⌝ }
-    ensures { λ r. ⌜ r ≡ answer (stateOf (now (e .entry)) (now (d .entry)) (now (m .entry))) ⌝ }
+    ensures { λ r. ⌜ r ≡ answerOf (stateOf (now (e .entry)) (now (d .entry)) (now (m .entry))) ⌝ }
 {
     let keys = s.keys;
     if keys.waiting < keys.asked {

@@ -228,7 +228,8 @@ caller-ends n e d table g num numbers =
     let b = fresh n e d in
     let f = fresh-waits n e d in
     let size : length (b .marks) ≡ n = length-replicate n 0 in
-    let k = closes table (2 * n + 1) b g (fresh-clean n e d num) (λ q h. numbers q (rw size at h)) (omega (arith, total-each still (held b) 0 2 (f .waits) refl)) in
+    let enough : total still (held b) + 1 ≡ 2 * n + 1 = omega (arith, total-each still (held b) 0 2 (f .waits) refl) in
+    let k = closes table (2 * n + 1) b g (fresh-clean n e d num) (λ q h. numbers q (rw size at h)) enough in
     let r = finished (held b) (k .events) (subst (Run (held b)) (k .to-done) (calls-run b (turns (2 * n + 1) table b) .0)) f in
     record {
       accepted = k .accepted;

@@ -31,7 +31,7 @@ query = 3 ∷ 0 ∷ 15 ∷ 8 ∷ 1 ∷ []
 abbrev pub code : List ℕ
 code = codeWith (1 ∷ 0 ∷ 1 ∷ 1 ∷ 0 ∷ [])
 
--- the bits of the floats 1, 2, 2.5, 3, 3.5, 6, 7, 8, 9, 15, 99 and -1
+-- the bits of the floats 1, 2, 2.5, 3, 3.5, 6, 7, 8, 9, 15, 99 and -1. (Those of 0 are 0.)
 abbrev pub f1 : ℕ
 f1 = 0x3F80_0000
 

@@ -131,7 +131,7 @@ reply table (supply p d) = []
 reply table (gave p d) = []
 reply table done = []
 
--- a turn of it is a call of next, and the reply
+-- a turn of it is a call of next, and the reply; and k turns, one after the other
 unfoldable pub turn : (ℕ → ℕ) → Lists → List Call
 turn table b = let c = next (replicate 16 0) in c ∷ reply table (told (call b c .out))
 
@@ -159,7 +159,8 @@ pub record Demand : Type 0 where
   pub always : (n : ℕ) (e d : List ℕ) (cs : List Call) → let b = fresh n e d in Always (held b) (heard b cs)
   pub ordered : (n : ℕ) (e d : List ℕ) (cs : List Call) → let b = fresh n e d in Lower (f32At e) (heard b cs) → Ordered (held b) (heard b cs)
   pub finished : (n : ℕ) (e d : List ℕ) (cs : List Call) (es : List Event) → let b = fresh n e d in heard b cs ≡ es ++ (done ∷ []) → Finished (held b) es
-  -- fresh lists of good lengths, with no NaN among the estimates, are finished by 2 n + 1 turns of a caller that has a number for every place
+  -- fresh lists of n places, of the right lengths and with no NaN among the estimates, are finished by 2 n + 1 turns of a caller that has a
+  -- distance that is no NaN for every place
   pub ends : (n : ℕ) (e d : List ℕ) (table : ℕ → ℕ) → let b = fresh n e d in badLists e d (b .marks) ≡ false
       → ((q : ℕ) → q < n → isNan (f32At e q) ≡ false) → ((q : ℕ) → q < n → isNan (ofBits binary32 (table q)) ≡ false)
       → Finishes n b (turns (2 * n + 1) table b)

@@ -193,7 +193,7 @@ demand-1 =
           record {
             listed = row (rerank.badLists estimates distances marks || badLength out 4) (at refl)
                 (row (rule.missing state || isNan distance) (at refl)
-                (row (badMark state) (at refl) (row (asksFor (rule.answer state) place) (at refl) (at refl))));
+                (row (badMark state) (at refl) (row (asksFor (rule.answerOf state) place) (at refl) (at refl))));
             kept = λ e. (after-refused number distances _ e, after-refused number marks _ e, after-refused number out _ e);
           };
     }

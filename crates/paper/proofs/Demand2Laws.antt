@@ -1,18 +1,51 @@
 -- Demand 2 holds. Assumes nothing.
 use Rattle.digits.proofs.DigitLaws.{read-packed}
 use Rattle.scalar.proofs.TableLaws.{table-back}
-use Rattle.block.proofs.RoundLaws.{lane-of-packed, packed-of-lanes}
+use Rattle.code.proofs.CodeLaws.{word-bit, pad-of-code, code-cleared}
+use Rattle.block.proofs.RoundLaws.{lane-of-packed, packed-of-lanes, block-cleared}
 use Rattle.sums.proofs.SumsLaws.{counted}
 use Rattle.estimate.proofs.AgreeLaws.{lane-or-none}
 use Rattle.walk.proofs.PackedLaws.{packed-walk}
-use mathlib.Core.List.{[]}
-use Prim.Native.Nat.{ℕ, _<_}
+use mathlib.Core.Path.{_≡_, _∙_}
+use mathlib.Core.List.{List, [], _∷_}
+use Prim.Native.Nat.{ℕ, zero, suc, _+_, _*_, _<_}
+use native.Mathlib.Nat.{le-refl, mul-le-mul}
 use native.Mathlib.Omega.{arith}
-use lib.ListN.{getD}
-use Rattle.paper.specs.Demand2.{Demand2}
+use lib.ListN.{length, getD, take, drop, length-drop}
+use lib.Seq.{length-take-le, getD-drop}
+use Rattle.code.specs.Code.{codeSize}
+use Rattle.code.specs.Calls.{signClear}
+use Rattle.block.specs.Block.{codeAt, laneCode, packed}
+use Rattle.paper.specs.Demand2.{Bytes, ZeroPads, Demand2}
 
 nothing : (i : ℕ) → getD {A = ℕ} [] i 0 < 256
 nothing i = omega arith
+
+bytes-take : (n : ℕ) (s : List ℕ) → Bytes s → Bytes (take n s)
+bytes-take zero s h i = omega arith
+bytes-take (suc n) [] h i = omega arith
+bytes-take (suc n) (x ∷ s) h zero = h 0
+bytes-take (suc n) (x ∷ s) h (suc i) = bytes-take n s (λ j. h (suc j)) i
+
+bytes-drop : (n : ℕ) (s : List ℕ) → Bytes s → Bytes (drop n s)
+bytes-drop n s h i = rw (getD-drop n s i 0) (h (n + i))
+
+code-same : (dims : ℕ) (codes : List ℕ) (k : ℕ) → length codes ≡ 32 * codeSize dims → Bytes codes → k < 32
+    → ZeroPads dims (codeAt dims codes k) → laneCode dims (packed dims codes) k ≡ codeAt dims codes k
+unfolding codeAt
+code-same dims codes k size byte h pad = lane-of-packed dims codes k h ∙ code-cleared dims (codeAt dims codes k) long bytes pad
+  where
+    long : length (codeAt dims codes k) ≡ codeSize dims
+    long =
+        length-take-le (codeSize dims) (drop (codeSize dims * k) codes)
+        (omega (arith, length-drop (codeSize dims * k) codes, mul-le-mul (le-refl (codeSize dims)) h))
+
+    bytes : Bytes (codeAt dims codes k)
+    bytes = bytes-take (codeSize dims) (drop (codeSize dims * k) codes) (bytes-drop (codeSize dims * k) codes byte)
+
+sign-lt : (vector : List ℕ) (d : ℕ) → signClear vector d < 2
+unfolding signClear
+sign-lt vector d = omega arith
 
 pub demand-2 : Demand2
 demand-2 =
@@ -25,8 +58,13 @@ demand-2 =
       lanes = λ query whole k q. counted query [] whole (q .few) (q .small) nothing .lanes k;
       lane-table = λ query whole k q. counted query [] whole (q .few) (q .small) nothing .lane-table k;
       lane-most = λ query whole k q. counted query [] whole (q .few) (q .small) nothing .lane-small k;
+      word-bits = λ code w i h l. word-bit code h w i l;
       lane-back = lane-of-packed;
       block-back = packed-of-lanes;
+      code-again = code-same;
+      block-again = λ dims whole size byte pad. packed-of-lanes dims whole ∙ block-cleared dims whole size byte pad;
+      encoded-pads = λ dims factors vector. pad-of-code dims (λ i. getD factors i 0) (signClear vector) (sign-lt vector);
       lane-estimate = λ asked metric dims v query whole out lanes one k. lane-or-none asked metric dims v query whole out lanes one k;
-      walks = λ metric dims v query codes fill n start end ids bounds marks count. packed-walk metric dims v query codes fill n start end ids bounds marks count;
+      walks = λ metric dims v query codes fill n start end ids bounds marks count.
+          packed-walk metric dims v query codes fill n start end ids bounds marks count;
     }

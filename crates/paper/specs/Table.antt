@@ -1,99 +1,135 @@
--- The paper's numbers that are to be proved, in one table: what the definitions give, and what the paper says.
-use Prim.Native.Nat.{ℕ, _*_}
+-- The paper's numbers that are to be proved, in one statement. A row is what the definitions give, and what the paper says.
+use Prim.Native.Nat.{ℕ, _+_, _*_}
+use mathlib.Core.Path.{_≡_}
 use mathlib.Core.List.{List, [], _∷_, map}
 use lib.ListN.{getD, length, replicate}
-use lib.Ieee.{Float, nan, binary32, ofBits, toBits}
-use Rattle.digits.specs.Digits.{packed}
-use Rattle.scalar.specs.Code.{codeOf, quotient}
-use Rattle.root.specs.Root.{rootOf, valueOr}
-use Rattle.words.specs.Bytes.{numAt}
-use Rattle.code.specs.Code.{codeWords, codeSize, wordsBit}
+use lib.Ieee.{Float, binary32, ofBits}
+use Rattle.words.specs.Bytes.{wordsOf}
+use Rattle.words.specs.Lists.{tabulate}
+use Rattle.digits.specs.Digits.{digitAt, packed}
+use Rattle.scalar.specs.Code.{scalarCode}
+use Rattle.root.specs.Root.{rootOf}
+use Rattle.root.specs.declared.Root.the-variants.{Is}
+use Rattle.code.specs.Code.{codeWords, codeSize, codeWord, codeBit, codeOf, wordsBit}
+use Rattle.code.specs.Reader.{wordsAt}
 use Rattle.block.specs.Block.{blockSize}
 use Rattle.sums.specs.Sums.{plainSum, querySum, planeWord, planeCount}
-use Rattle.rerank.specs.Rerank.{Event, asked, supply, gave, done, drive}
-
--- a float by its bits
-abbrev pub f32 : ℕ → Float
-f32 = ofBits binary32
+use Rattle.rerank.specs.Rerank.{Event, asked, supply, gave, done}
+use Rattle.rerank.specs.Demand.{fresh, numbers, heard, turns}
 
 -- the sizes of a single code and of a block
 abbrev pub sizes : ℕ → List ℕ
 sizes dims = codeSize dims ∷ blockSize dims ∷ []
 
--- the codes of width 4 between min and max
-abbrev pub codes4 : Float → Float → List Float → List ℕ
-codes4 lo hi xs = map (λ x. codeOf 15 (quotient 15 x lo hi)) xs
+-- the single code with these bits. Its factors are 0
+abbrev pub codeWith : List ℕ → List ℕ
+codeWith bits = codeOf (length bits) (λ i. 0) (λ d. getD bits d 0)
 
--- the bits of the root of the float of these bits
-abbrev pub rootBits : ℕ → ℕ
-rootBits b = toBits binary32 (valueOr nan (rootOf (f32 b)))
-
--- query codes 3, 0, 15, 8, 1, and the word bytes of a code with the bits 1, 0, 1, 1, 0
 abbrev pub query : List ℕ
 query = 3 ∷ 0 ∷ 15 ∷ 8 ∷ 1 ∷ []
 
-abbrev pub word : List ℕ
-word = 13 ∷ 0 ∷ 0 ∷ 0 ∷ 0 ∷ 0 ∷ 0 ∷ 0 ∷ []
+abbrev pub code : List ℕ
+code = codeWith (1 ∷ 0 ∷ 1 ∷ 1 ∷ 0 ∷ [])
 
--- 4,369 query codes of 15, and the word bytes of a code with all bits set
-abbrev pub greatest : ℕ
-greatest = plainSum (replicate 4369 15) (wordsBit (replicate (8 * codeWords 4369) 255))
+-- the bits of the floats 1, 2, 2.5, 3, 3.5, 6, 7, 8, 9, 15, 99 and -1. (Those of 0 are 0.)
+abbrev pub f1 : ℕ
+f1 = 0x3F80_0000
 
--- what the reranker says in a whole run over fresh lists, its Asks met from a list of distances: 1 and the place for Ask, 2 and the place for
--- Give, 0 for Done
-abbrev pub said : List Event → List ℕ
-said [] = []
-said (asked p ∷ es) = 1 ∷ p ∷ said es
-said (supply p d ∷ es) = said es
-said (gave p d ∷ es) = 2 ∷ p ∷ said es
-said (done ∷ es) = 0 ∷ said es
+abbrev pub f2 : ℕ
+f2 = 0x4000_0000
 
-abbrev pub run : List Float → List Float → List ℕ
+abbrev pub f2½ : ℕ
+f2½ = 0x4020_0000
+
+abbrev pub f3 : ℕ
+f3 = 0x4040_0000
+
+abbrev pub f3½ : ℕ
+f3½ = 0x4060_0000
+
+abbrev pub f6 : ℕ
+f6 = 0x40C0_0000
+
+abbrev pub f7 : ℕ
+f7 = 0x40E0_0000
+
+abbrev pub f8 : ℕ
+f8 = 0x4100_0000
+
+abbrev pub f9 : ℕ
+f9 = 0x4110_0000
+
+abbrev pub f15 : ℕ
+f15 = 0x4170_0000
+
+abbrev pub f99 : ℕ
+f99 = 0x42C6_0000
+
+abbrev pub minus1 : ℕ
+minus1 = 0xBF80_0000
+
+-- the float of these bits, and the bytes of several
+abbrev pub f32 : ℕ → Float
+f32 = ofBits binary32
+
+abbrev pub floats : List ℕ → List ℕ
+floats bits = wordsOf (length bits) (λ i. getD bits i 0)
+
+-- the codes that a vector's scalar code holds, at the width w and one min and max for every dimension
+abbrev pub scalarCodes : ℕ → ℕ → ℕ → List ℕ → List ℕ
+scalarCodes w lo hi vector =
+    let dims = length vector in
+    let bytes = scalarCode w dims (floats vector) (floats (replicate dims lo)) (floats (replicate dims hi)) in
+    tabulate dims (digitAt w bytes)
+
+-- a whole run over fresh lists, by a caller that supplies these distances: the numbers that its calls return, and what is heard
+abbrev pub run : List ℕ → List ℕ → List ℕ × List Event
 run estimates distances =
-    said (drive 20 (λ i. getD distances i nan) (record { size = length estimates; estimate = λ i. getD estimates i nan; distance = λ i. nan; mark = λ i. 0 }))
+    let n = length estimates in
+    let lists = fresh n (floats estimates) (floats (replicate n 0)) in
+    let calls = turns (2 * n + 1) (λ p. getD distances p 0) lists in
+    (numbers lists calls, heard lists calls)
 
--- what the definitions give
-abbrev pub rows : List (List ℕ)
-rows =
-    -- sizes at dims 1, 65 and 4,369
-    sizes 1
-    ∷ sizes 65
-    ∷ sizes 4369
-    -- planes 0 to 3, the word, the sum by planes and the plain sum, and Q
-    ∷ map (λ p. planeWord query p 0) (0 ∷ 1 ∷ 2 ∷ 3 ∷ [])
-    ∷ (numAt 8 word 0 ∷ planeCount query word ∷ plainSum query (wordsBit word) ∷ querySum query ∷ [])
-    -- width 4, codes 1, 2, 3; width 2, codes 1, 2, 3, 0, 1
-    ∷ packed 4 (1 ∷ 2 ∷ 3 ∷ [])
-    ∷ packed 2 (1 ∷ 2 ∷ 3 ∷ 0 ∷ 1 ∷ [])
-    -- width 4, min 0, max 15: 2.5, 3.5, -1, 99; min = max = 7: 6, 7, 8
-    ∷ codes4 (f32 0) (f32 0x4170_0000) (f32 0x4020_0000 ∷ f32 0x4060_0000 ∷ f32 0xBF80_0000 ∷ f32 0x42C6_0000 ∷ [])
-    ∷ codes4 (f32 0x40E0_0000) (f32 0x40E0_0000) (f32 0x40C0_0000 ∷ f32 0x40E0_0000 ∷ f32 0x4100_0000 ∷ [])
-    -- the roots of 2.0 and of the least subnormal
-    ∷ map rootBits (0x4000_0000 ∷ 1 ∷ [])
-    -- estimates 1, 2, 3, distances 2.5, 2, 9; estimates 1, 2, distances 2, 2
-    ∷ run (f32 0x3F80_0000 ∷ f32 0x4000_0000 ∷ f32 0x4040_0000 ∷ []) (f32 0x4020_0000 ∷ f32 0x4000_0000 ∷ f32 0x4110_0000 ∷ [])
-    ∷ run (f32 0x3F80_0000 ∷ f32 0x4000_0000 ∷ []) (f32 0x4000_0000 ∷ f32 0x4000_0000 ∷ [])
-    ∷ []
-
-abbrev pub given : List (List ℕ)
-given = (greatest ∷ []) ∷ rows
-
--- what the paper says
-abbrev pub wanted : List (List ℕ)
-wanted =
-    (65535 ∷ [])
-    ∷ (24 ∷ 528 ∷ [])
-    ∷ (32 ∷ 784 ∷ [])
-    ∷ (568 ∷ 18000 ∷ [])
-    ∷ (21 ∷ 5 ∷ 4 ∷ 12 ∷ [])
-    ∷ (13 ∷ 26 ∷ 26 ∷ 27 ∷ [])
-    ∷ (0x21 ∷ 0x03 ∷ [])
-    ∷ (0x39 ∷ 0x01 ∷ [])
-    ∷ (2 ∷ 4 ∷ 0 ∷ 15 ∷ [])
-    ∷ (0 ∷ 0 ∷ 15 ∷ [])
-    ∷ (0x3FB5_04F3 ∷ 0x1A35_04F3 ∷ [])
-    -- Ask 0, Ask 1, Give 1, Give 0, Ask 2, Give 2, Done
-    ∷ (1 ∷ 0 ∷ 1 ∷ 1 ∷ 2 ∷ 1 ∷ 2 ∷ 0 ∷ 1 ∷ 2 ∷ 2 ∷ 2 ∷ 0 ∷ [])
-    -- Ask 0, Give 0, Ask 1, Give 1, Done
-    ∷ (1 ∷ 0 ∷ 2 ∷ 0 ∷ 1 ∷ 1 ∷ 2 ∷ 1 ∷ 0 ∷ [])
-    ∷ []
+pub record Table : Type 0 where
+  -- dims 1: 24 and 528 bytes
+  pub dims-1 : sizes 1 ≡ 24 ∷ 528 ∷ []
+  -- dims 65: 32 and 784
+  pub dims-65 : sizes 65 ≡ 32 ∷ 784 ∷ []
+  -- dims 4,369: 568 and 18,000
+  pub dims-4369 : sizes 4369 ≡ 568 ∷ 18000 ∷ []
+  -- query codes 3, 0, 15, 8, 1, bits 1, 0, 1, 1, 0: planes 21, 5, 4, 12
+  pub planes : map (λ p. planeWord query p 0) (0 ∷ 1 ∷ 2 ∷ 3 ∷ []) ≡ 21 ∷ 5 ∷ 4 ∷ 12 ∷ []
+  -- word 13
+  pub word : codeWord code 0 ≡ 13
+  -- sum 26: the plain sum, and the sum by planes
+  pub sum : plainSum query (codeBit code) ≡ 26
+  pub sum-by-planes : planeCount query (wordsAt code) ≡ 26
+  -- Q 27
+  pub query-sum : querySum query ≡ 27
+  -- 4,369 codes of 15, all bits set: 65,535
+  pub greatest-sum : plainSum (replicate 4369 15) (wordsBit (replicate (8 * codeWords 4369) 255)) ≡ 65535
+  -- width 4, codes 1, 2, 3: bytes 0x21, 0x03
+  pub width-4 : packed 4 (1 ∷ 2 ∷ 3 ∷ []) ≡ 0x21 ∷ 0x03 ∷ []
+  -- width 2, codes 1, 2, 3, 0, 1: 0x39, 0x01
+  pub width-2 : packed 2 (1 ∷ 2 ∷ 3 ∷ 0 ∷ 1 ∷ []) ≡ 0x39 ∷ 0x01 ∷ []
+  -- width 4, min 0, max 15: 2.5 gives 2; 3.5 gives 4; -1 gives 0; 99 gives 15
+  pub rounding : scalarCodes 4 0 f15 (f2½ ∷ f3½ ∷ minus1 ∷ f99 ∷ []) ≡ 2 ∷ 4 ∷ 0 ∷ 15 ∷ []
+  -- min = max = 7: 6 gives 0, 7 gives 0, 8 gives 15
+  pub no-room : scalarCodes 4 f7 f7 (f6 ∷ f7 ∷ f8 ∷ []) ≡ 0 ∷ 0 ∷ 15 ∷ []
+  -- root of 2.0: 0x3FB504F3
+  pub root-of-2 : rootOf (f32 f2) ≡ Is (f32 0x3FB5_04F3)
+  -- root of the least subnormal: 0x1A3504F3
+  pub root-of-least : rootOf (f32 1) ≡ Is (f32 0x1A35_04F3)
+  -- estimates 1, 2, 3, distances 2.5, 2, 9, whole run: Ask 0, Ask 1, Give 1, Give 0, Ask 2, Give 2, Done. Every call is accepted
+  pub first-run : run (f1 ∷ f2 ∷ f3 ∷ []) (f2½ ∷ f2 ∷ f9 ∷ [])
+      ≡ (
+        replicate 10 0,
+        asked 0 ∷ supply 0 (f32 f2½) ∷ asked 1 ∷ supply 1 (f32 f2) ∷ gave 1 (f32 f2) ∷ gave 0 (f32 f2½)
+            ∷ asked 2 ∷ supply 2 (f32 f9) ∷ gave 2 (f32 f9) ∷ done ∷ [],
+      )
+  -- estimates 1, 2, distances 2, 2: Ask 0, Give 0, Ask 1, Give 1, Done
+  pub second-run : run (f1 ∷ f2 ∷ []) (f2 ∷ f2 ∷ [])
+      ≡ (
+        replicate 7 0,
+        asked 0 ∷ supply 0 (f32 f2) ∷ gave 0 (f32 f2) ∷ asked 1 ∷ supply 1 (f32 f2) ∷ gave 1 (f32 f2) ∷ done ∷ [],
+      )

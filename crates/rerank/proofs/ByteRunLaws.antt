@@ -16,7 +16,7 @@ use Rattle.words.specs.Refusals.{after, badLength}
 use Rattle.words.proofs.ByteLaws.{num-bytes}
 use Rattle.words.proofs.RefusalLaws.{no-row, neither, after-accepted}
 use Rattle.words.proofs.WordsLaws.{num-words}
-use Rattle.rerank.specs.Rerank.{State, answer, nextRefusal, supplyRefusal, supplied, counted, Event, asked, supply, gave, done, Accepted}
+use Rattle.rerank.specs.Rerank.{State, answerOf, nextRefusal, supplyRefusal, supplied, counted, Event, asked, supply, gave, done, Accepted}
 use Rattle.rerank.specs.Rerank.{then, ran, Run}
 use Rattle.rerank.specs.Calls.{stateOf, badLists, answerNumber, answerPlace, answerBits, answerMarks, answerBytes, nextNumber, nextAnswer, supplyNumber}
 use Rattle.rerank.specs.Calls.{supplyAnswer}
@@ -43,7 +43,7 @@ word-back a n j h l = num-words (answerBytes a n) 4 j (words-of a n) (all ∙ sa
     all = unfold answerBytes in unfold bytesOf in refl
 
 -- the event of an answer
-abbrev eventOf : Answer → Event
+abbrev pub eventOf : Answer → Event
 eventOf (Ask p) = asked p
 eventOf (Give p x) = gave p x
 eventOf Done = done
@@ -61,7 +61,7 @@ unfolding f32At
 told-distance p x n t = ap (ofBits binary32) (word-back (Give p x) n 2 (omega arith) (toBits-lt binary32 x t)) ∙ ofBits-toBits binary32 x t
 
 -- an answer whose place fits four bytes, and whose distance is a float's, is told as its event
-told-is : (a : Answer) (n : ℕ) → answerPlace a < 2 ^ 32 → ((p : ℕ) (x : Float) → a ≡ Give p x → T (fits binary32 x)) → told (answerBytes a n) ≡ eventOf a
+pub told-is : (a : Answer) (n : ℕ) → answerPlace a < 2 ^ 32 → ((p : ℕ) (x : Float) → a ≡ Give p x → T (fits binary32 x)) → told (answerBytes a n) ≡ eventOf a
 unfolding told
 told-is (Ask p) n h f = rw (told-number (Ask p) n, word-back (Ask p) n 1 (omega arith) h)
 told-is (Give p x) n h f =
@@ -85,25 +85,25 @@ module _ (e d m out : List ℕ) (z : nextNumber e d m out ≡ 0) where
   next-ok : nextRefusal (stateOf e d m) ≡ 0
   next-ok = rows .1
 
-  place-fits : (a : Answer) → answer (stateOf e d m) ≡ a → answerPlace a < 2 ^ 32
+  pub place-fits : (a : Answer) → answerOf (stateOf e d m) ≡ a → answerPlace a < 2 ^ 32
   place-fits (Ask p) h = omega (arith, means (stateOf e d m) (next-clean (stateOf e d m) next-ok) (Ask p) h .least .inside, next-sized .most)
   place-fits (Give p x) h = omega (arith, giving (stateOf e d m) p x (next-ok, h) .1 .least .inside, next-sized .most)
   place-fits Done h = omega arith
 
-  distance-fits : (p : ℕ) (x : Float) → answer (stateOf e d m) ≡ Give p x → T (fits binary32 x)
+  pub distance-fits : (p : ℕ) (x : Float) → answerOf (stateOf e d m) ≡ Give p x → T (fits binary32 x)
   unfolding f32At
   distance-fits p x h =
       let g = giving (stateOf e d m) p x (next-ok, h) in
       subst (λ (y : Float). T (fits binary32 y)) (sym (g .1 .value)) (ofBits-fits binary32 (numAt 4 d (4 * p)))
 
   -- the event is accepted, and the lists hold the state after it
-  accepted-is : (a : Answer) → answer (stateOf e d m) ≡ a → Accepted (stateOf e d m) (eventOf a)
+  accepted-is : (a : Answer) → answerOf (stateOf e d m) ≡ a → Accepted (stateOf e d m) (eventOf a)
   unfolding Accepted
   accepted-is (Ask p) h = (next-ok, h)
   accepted-is (Give p x) h = (next-ok, h)
   accepted-is Done h = (next-ok, h)
 
-  state-is : (a : Answer) → answer (stateOf e d m) ≡ a → stateOf e d (answerMarks a m) ≡ then (stateOf e d m) (eventOf a)
+  state-is : (a : Answer) → answerOf (stateOf e d m) ≡ a → stateOf e d (answerMarks a m) ≡ then (stateOf e d m) (eventOf a)
   unfolding then
   state-is (Ask p) h = refl
   state-is (Give p x) h = state-given e d m p (giving (stateOf e d m) p x (next-ok, h) .1 .least .inside)
@@ -123,7 +123,7 @@ module _ (e d m : List ℕ) (p bits : ℕ) (out : List ℕ) (z : supplyNumber e 
   supply-inside : p < length m
   supply-inside = supplying (stateOf e d m) p (ofBits binary32 bits) (supply-rows .1) .2 .least .inside
 
-  supply-state : stateOf e (sets d (4 * p) (floatBytes (ofBits binary32 bits))) (set m p 1) ≡ supplied (stateOf e d m) p (ofBits binary32 bits)
+  pub supply-state : stateOf e (sets d (4 * p) (floatBytes (ofBits binary32 bits))) (set m p 1) ≡ supplied (stateOf e d m) p (ofBits binary32 bits)
   supply-state =
       state-supplied e d m p (ofBits binary32 bits) supply-inside (omega (arith, supply-inside, supply-sized .distances)) (ofBits-fits binary32 bits)
 
@@ -153,7 +153,7 @@ next-adds b out = go (nextNumber e d m out) refl
     m = b .marks
 
     a : Answer
-    a = answer (stateOf e d m)
+    a = answerOf (stateOf e d m)
 
     new : List ℕ
     new = answerBytes a (counted (stateOf e d (answerMarks a m)))
@@ -235,7 +235,7 @@ next-counts b out z =
     s = stateOf e d m
 
     a : Answer
-    a = answer s
+    a = answerOf s
 
     marks : List ℕ
     marks = answerMarks a m

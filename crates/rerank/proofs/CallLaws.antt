@@ -17,7 +17,7 @@ use Rattle.words.specs.Refusals.{after, badLength}
 use Rattle.words.proofs.ByteLaws.{length-bytesOf, length-floatBytes, sets-append, sets-all}
 use Rattle.words.proofs.FloatLaws.{same-no-nan}
 use Rattle.words.proofs.RefusalLaws.{after-refused, sized, unsized, none-bad}
-use Rattle.rerank.specs.Rerank.{State, answer, asksFor, missing, badMark, nextRefusal, supplyRefusal, oneOrTwo, counted}
+use Rattle.rerank.specs.Rerank.{State, answerOf, asksFor, missing, badMark, nextRefusal, supplyRefusal, oneOrTwo, counted}
 use Rattle.rerank.specs.Calls.{stateOf, badLists, answerMarks, answerBytes, nextNumber, nextAnswer, supplyNumber, supplyAnswer}
 use Rattle.rerank.specs.Demand.{notWaiting}
 use Rattle.rerank.specs.Scan.{Accepting, Ruled, ScanTo}
@@ -127,7 +127,7 @@ module _ (e d m : List ℕ) (s : Scan) (k : ScanTo e d m (length m) s) where
       let n : 0 ≡ nextRefusal (stateOf e d m) = rw (le-ltb 0 (s .keys .missing) l, le-ltb 0 (s .bad) b) at (found-refusal e d m s k) in
       record { sized = h; scanned = k; accepted = sym n }
 
-pub ruled-accepted : (e d m : List ℕ) (s : Scan) (r : Ruling) → Accepting e d m s → r .refused ≡ 0 → r .answer ≡ answer (stateOf e d m) → r .count ≡ s .count
+pub ruled-accepted : (e d m : List ℕ) (s : Scan) (r : Ruling) → Accepting e d m s → r .refused ≡ 0 → r .answer ≡ answerOf (stateOf e d m) → r .count ≡ s .count
     → Ruled e d m r
 unfolding notWaiting
 ruled-accepted e d m s r k z p q =
@@ -150,7 +150,7 @@ module _ (e d m : List ℕ) (r : Ruling) (k : Ruled e d m r) (z : r .refused ≡
   count-marked d' p x v h q =
       omega (arith, ap counted (state-marked e d' m p v h), sum-put oneOrTwo (λ i. getD m i 0) p v (length m) h, ap oneOrTwo q, k .says z .1)
 
-  next-count : (a : Answer) → a ≡ answer (stateOf e d m) → r .count ≡ counted (stateOf e d (answerMarks a m))
+  next-count : (a : Answer) → a ≡ answerOf (stateOf e d m) → r .count ≡ counted (stateOf e d (answerMarks a m))
   next-count (Ask p) h = k .says z .1
   next-count (Give p x) h =
       let g = giving (stateOf e d m) p x (accepted, sym h) in
@@ -158,7 +158,7 @@ module _ (e d m : List ℕ) (r : Ruling) (k : Ruled e d m r) (z : r .refused ≡
   next-count Done h = k .says z .1
 
   module _ (p : ℕ) (asks : asksFor (r .answer) p ≡ true) where
-    now-asked : answer (stateOf e d m) ≡ Ask p
+    now-asked : answerOf (stateOf e d m) ≡ Ask p
     now-asked = sym (k .says z .0) ∙ asks-is (r .answer) p asks
 
     pub asked-inside : p < length m
@@ -192,7 +192,7 @@ module _ (e d m out : List ℕ) (b : Bool) (h : b ≡ badLists e d m) where
     pub next-refused : (r .refused ≡ 0 → ⊥) → (r .refused, m, out) ≡ nextAnswer e d m out
     unfolding nextAnswer
     next-refused z =
-        let a = answer (stateOf e d m) in
+        let a = answerOf (stateOf e d m) in
         let new = answerBytes a (counted (stateOf e d (answerMarks a m))) in
         rw (number-is, after-refused (r .refused) m (answerMarks a m) z, after-refused (r .refused) out new z)
 
@@ -224,12 +224,12 @@ unfolding nextRefusal supplyRefusal
 same-rows s p x n = go (missing s) (badMark s)
   where
     go : (M B : Bool) → (_≡_ {A = ℕ} (cond M 4 (cond B 5 0)) 0 → ⊥)
-        → _≡_ {A = ℕ} (cond M 4 (cond B 5 0)) (cond (M || isNan x) 4 (cond B 5 (cond (asksFor (answer s) p) 0 9)))
+        → _≡_ {A = ℕ} (cond M 4 (cond B 5 0)) (cond (M || isNan x) 4 (cond B 5 (cond (asksFor (answerOf s) p) 0 9)))
     go true B w = refl
     go false true w = rw n
     go false false w = absurd (w refl)
 
-last-row : (s : State) (p : ℕ) (x : Float) → isNan x ≡ false → nextRefusal s ≡ 0 → supplyRefusal s p x ≡ cond (asksFor (answer s) p) 0 9
+last-row : (s : State) (p : ℕ) (x : Float) → isNan x ≡ false → nextRefusal s ≡ 0 → supplyRefusal s p x ≡ cond (asksFor (answerOf s) p) 0 9
 unfolding supplyRefusal
 last-row s p x n z =
     let c = next-clean s z in

@@ -13,7 +13,7 @@ use lib.ListN.{length, getD}
 use lib.Ieee.{binary32, lt}
 use lib.Ieee.Bits.{nanBits-is}
 use Rattle.words.specs.Bytes.{numAt, f32At}
-use Rattle.rerank.specs.Rerank.{least, IsLeast, choose, answer}
+use Rattle.rerank.specs.Rerank.{least, IsLeast, choose, answerOf}
 use Rattle.rerank.specs.Calls.{stateOf}
 use Rattle.rerank.specs.Scan.{keyOf, noKey, keyIf, keyAt, leastKey, FirstAt, Accepting}
 use Rattle.rerank.specs.declared.Answer.the-variants.{Ask, Give, Done}
@@ -124,8 +124,8 @@ module _ (e d m : List ℕ) (s : Scan) (a : Accepting e d m s) where
     pub ask-small : p < 0x1_0000_0000
     ask-small = omega (arith, first-waiting .inside, sized .most)
 
-    pub says-ask : Ask p ≡ answer (stateOf e d m)
-    unfolding answer choose
+    pub says-ask : Ask p ≡ answerOf (stateOf e d m)
+    unfolding answerOf choose
     says-ask =
         rw (least-is 0 (f32At e) (λ i. getD m i 0) (length m) p waiting first-waiting)
         (go (least 1 (f32At d) (λ i. getD m i 0) (length m)) (least-says 1 (f32At d) (λ i. getD m i 0) (length m) (clean .held)))
@@ -140,8 +140,8 @@ module _ (e d m : List ℕ) (s : Scan) (a : Accepting e d m s) where
         go (some q) y = rw (ahead q (y .inside) (y .marked))
 
   -- Done: there is no key
-  pub says-done : s .keys .asked ≤ s .keys .waiting → s .keys .asked ≡ noKey → Done ≡ answer (stateOf e d m)
-  unfolding answer choose
+  pub says-done : s .keys .asked ≤ s .keys .waiting → s .keys .asked ≡ noKey → Done ≡ answerOf (stateOf e d m)
+  unfolding answerOf choose
   says-done g z =
       let w : leastKey (length m) (keyAt 0 e m) ≡ noKey = omega (arith, waiting-is, key-most (keyAt 0 e m) (length m)) in
       rw (
@@ -167,8 +167,8 @@ module _ (e d m : List ℕ) (s : Scan) (a : Accepting e d m s) where
     pub give-room : 4 * p + 4 ≤ length d
     give-room = omega (arith, first-asked .inside, sized .distances)
 
-    pub says-give : Give p (f32At d p) ≡ answer (stateOf e d m)
-    unfolding answer choose
+    pub says-give : Give p (f32At d p) ≡ answerOf (stateOf e d m)
+    unfolding answerOf choose
     says-give =
         rw (least-is 1 (f32At d) (λ i. getD m i 0) (length m) p (clean .held) first-asked)
         (go (least 0 (f32At e) (λ i. getD m i 0) (length m)) (least-says 0 (f32At e) (λ i. getD m i 0) (length m) waiting))

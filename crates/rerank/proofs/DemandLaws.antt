@@ -7,11 +7,12 @@ use lib.Ieee.{isNan, ofBits, toBits, binary32}
 use lib.Ieee.Bits.{toBits-ofBits}
 use mathlib.Core.Bool.{Bool, false, not}
 use Rattle.rerank.specs.Rerank.{State, Event, done, Run}
-use Rattle.rerank.specs.Demand.{Fresh, Lower, Always, Ordered, Finished, held, heard, Demand}
+use Rattle.rerank.specs.Demand.{Lower, Always, Ordered, Finished, fresh, held, heard, Demand}
 use Rattle.rerank.proofs.RuleLaws.{supply-clean}
-use Rattle.rerank.proofs.RunLaws.{blame, exact, all-below, none-above, never-falls}
-use Rattle.rerank.proofs.TallyLaws.{once, finished, comes-to-done}
+use Rattle.rerank.proofs.RunLaws.{Fresh, blame, exact, all-below, none-above, never-falls}
+use Rattle.rerank.proofs.TallyLaws.{once, finished}
 use Rattle.rerank.proofs.ByteRunLaws.{calls-run, calls-count}
+use Rattle.rerank.proofs.CallerLaws.{fresh-waits, caller-ends}
 
 -- ---- over runs
 module _ (s : State) (es : List Event) (f : Fresh s) (r : Run s es) where
@@ -47,9 +48,9 @@ demand =
     record {
       runs = calls-run;
       counts = calls-count;
-      always = λ b cs f. run-always (held b) (heard b cs) f (calls-run b cs .0);
-      ordered = λ b cs f. run-ordered (held b) (heard b cs) f (calls-run b cs .0);
-      finished = λ b cs es f e. run-finished (held b) es f (subst (Run (held b)) e (calls-run b cs .0));
-      ends = comes-to-done;
+      always = λ n e d cs. let b = fresh n e d in run-always (held b) (heard b cs) (fresh-waits n e d) (calls-run b cs .0);
+      ordered = λ n e d cs. let b = fresh n e d in run-ordered (held b) (heard b cs) (fresh-waits n e d) (calls-run b cs .0);
+      finished = λ n e d cs es h. let b = fresh n e d in run-finished (held b) es (fresh-waits n e d) (subst (Run (held b)) h (calls-run b cs .0));
+      ends = caller-ends;
       bits = same-bits;
     }

@@ -8,6 +8,6 @@ pub mod ScanLaws
 pub mod ChoiceLaws
 pub mod StateLaws
 pub mod CallLaws
-pub mod ExampleLaws
 pub mod ByteRunLaws
+pub mod CallerLaws
 pub mod DemandLaws

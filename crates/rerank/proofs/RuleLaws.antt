@@ -8,10 +8,11 @@ use native.Mathlib.Omega.{arith}
 use borrow.Author.Tests.{eqb-true, eq-eqb, leb-true, le-leb, not-false}
 use lib.Dec.{eqb, leb}
 use lib.Ieee.{Float, lt, isNan}
+use Rattle.words.specs.Limits.{mostMark}
 use Rattle.words.specs.Lists.{anyBelow}
 use Rattle.words.proofs.ListLaws.{none-at}
 use Rattle.words.proofs.RefusalLaws.{no-row, neither, none-bad}
-use Rattle.rerank.specs.Rerank.{State, least, IsLeast, choose, answer, asksFor, missingAt, missing, badMark, nextRefusal, supplyRefusal}
+use Rattle.rerank.specs.Rerank.{State, least, IsLeast, choose, answerOf, asksFor, missingAt, missing, badMark, nextRefusal, supplyRefusal}
 use Rattle.rerank.specs.declared.Answer.{Answer}
 use Rattle.rerank.specs.declared.Answer.the-variants.{Ask, Give, Done}
 use Rattle.rerank.proofs.OrderLaws.{Num, Less, NotLess, true-false, less-co, notLess-trans}
@@ -21,7 +22,7 @@ use Rattle.rerank.proofs.LeastLaws.{Says, least-says}
 pub record Clean (s : State) : Type 0 where
   pub numbers : (q : ℕ) → q < s .size → Num (s .estimate q)
   pub held : (q : ℕ) → q < s .size → s .mark q ≡ 1 → Num (s .distance q)
-  pub bounded : (q : ℕ) → q < s .size → s .mark q ≤ 2
+  pub bounded : (q : ℕ) → q < s .size → s .mark q ≤ mostMark
 
 pub below-none : (n : ℕ) (f : ℕ → Bool) → ((q : ℕ) → q < n → f q ≡ false) → anyBelow n f ≡ false
 unfolding anyBelow
@@ -45,7 +46,7 @@ clean-of s m v =
     record {
       numbers = λ q h. place q h .0;
       held = λ q h e. asked-number (s .mark q) (isNan (s .distance q)) (place q h .1) e;
-      bounded = λ q h. leb-true (s .mark q) 2 (not-false (leb (s .mark q) 2) (none-at (λ i. not (leb (s .mark i) 2)) (s .size) v q h));
+      bounded = λ q h. leb-true (s .mark q) mostMark (not-false (leb (s .mark q) mostMark) (none-at (λ i. not (leb (s .mark i) mostMark)) (s .size) v q h));
     }
   where
     place : (q : ℕ) → q < s .size → Num (s .estimate q) × ((eqb (s .mark q) 1 && isNan (s .distance q)) ≡ false)
@@ -60,7 +61,9 @@ missing-no s c =
 
 pub badMark-no : (s : State) → Clean s → badMark s ≡ false
 unfolding badMark
-badMark-no s c = below-none (s .size) (λ i. not (leb (s .mark i) 2)) (λ q h. not-true (leb (s .mark q) 2) (le-leb (s .mark q) 2 (c .bounded q h)))
+badMark-no s c =
+    below-none (s .size) (λ i. not (leb (s .mark i) mostMark))
+    (λ q h. not-true (leb (s .mark q) mostMark) (le-leb (s .mark q) mostMark (c .bounded q h)))
 
 -- next is refused exactly where the state is not clean
 pub next-clean : (s : State) → nextRefusal s ≡ 0 → Clean s
@@ -88,15 +91,15 @@ last-row true e = refl
 last-row false e = absurd (omega arith)
 
 -- a supply is accepted exactly where the state is clean, the distance a number and the place now asked for
-pub supply-clean : (s : State) (p : ℕ) (d : Float) → supplyRefusal s p d ≡ 0 → Clean s × Num d × (answer s ≡ Ask p)
+pub supply-clean : (s : State) (p : ℕ) (d : Float) → supplyRefusal s p d ≡ 0 → Clean s × Num d × (answerOf s ≡ Ask p)
 unfolding supplyRefusal
 supply-clean s p d e =
-    let a = no-row (missing s || isNan d) 3 (cond (badMark s) 5 (cond (asksFor (answer s) p) 0 9)) e in
-    let b = no-row (badMark s) 4 (cond (asksFor (answer s) p) 0 9) (a .1) in
+    let a = no-row (missing s || isNan d) 3 (cond (badMark s) 5 (cond (asksFor (answerOf s) p) 0 9)) e in
+    let b = no-row (badMark s) 4 (cond (asksFor (answerOf s) p) 0 9) (a .1) in
     let m = neither (missing s) (isNan d) (a .0) in
-    (clean-of s (m .0) (b .0), m .1, asks-is (answer s) p (last-row (asksFor (answer s) p) (b .1)))
+    (clean-of s (m .0) (b .0), m .1, asks-is (answerOf s) p (last-row (asksFor (answerOf s) p) (b .1)))
 
-pub clean-supply : (s : State) (p : ℕ) (d : Float) → Clean s → Num d → answer s ≡ Ask p → supplyRefusal s p d ≡ 0
+pub clean-supply : (s : State) (p : ℕ) (d : Float) → Clean s → Num d → answerOf s ≡ Ask p → supplyRefusal s p d ≡ 0
 unfolding supplyRefusal
 clean-supply s p d c n a = rw (none-bad (missing s) (isNan d) (missing-no s c) n, badMark-no s c, a, asks-refl p)
 
@@ -141,11 +144,11 @@ means-choice s c (some w) (some p) x y = go (lt (s .estimate w) (s .distance p))
     go true e = record { least = x; ahead = before e }
     go false e = record { least = y; value = refl; ahead = after e }
 
-pub answer-means : (s : State) → Clean s → Means s (answer s)
-unfolding answer
+pub answer-means : (s : State) → Clean s → Means s (answerOf s)
+unfolding answerOf
 answer-means s c =
     means-choice s c (least 0 (s .estimate) (s .mark) (s .size)) (least 1 (s .distance) (s .mark) (s .size))
     (least-says 0 (s .estimate) (s .mark) (s .size) (λ q h m. c .numbers q h)) (least-says 1 (s .distance) (s .mark) (s .size) (c .held))
 
-pub means : (s : State) → Clean s → (x : Answer) → answer s ≡ x → Means s x
+pub means : (s : State) → Clean s → (x : Answer) → answerOf s ≡ x → Means s x
 means s c x e = subst (Means s) e (answer-means s c)

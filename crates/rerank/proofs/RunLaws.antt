@@ -7,12 +7,17 @@ use Prim.Native.Nat.{ℕ, _<_, _≤_}
 use native.Mathlib.Decide.{ℕ-discrete}
 use native.Mathlib.Omega.{arith}
 use lib.Ieee.{Float, lt}
-use Rattle.rerank.specs.Rerank.{State, answer, nextRefusal, supplyRefusal, given, supplied, Event, asked, supply, gave, done, Accepted, then, ran, Run}
-use Rattle.rerank.specs.Demand.{Fresh, Lower, Supplied}
+use Rattle.words.specs.Limits.{mostMark}
+use Rattle.rerank.specs.Rerank.{State, answerOf, nextRefusal, supplyRefusal, given, supplied, Event, asked, supply, gave, done, Accepted, then, ran, Run}
+use Rattle.rerank.specs.Demand.{Lower, Supplied}
 use Rattle.rerank.specs.declared.Answer.the-variants.{Ask, Give}
 use Rattle.rerank.proofs.OrderLaws.{Num, Less, NotLess, false-of, true-false, less-asym, notLess-trans}
 use Rattle.rerank.proofs.LeastLaws.{put-here, put-else, at-or-else}
 use Rattle.rerank.proofs.RuleLaws.{Clean, next-clean, supply-clean, AskSays, GiveSays, means}
+
+-- ---- no candidate was asked for yet
+pub record Fresh (s : State) : Type 0 where
+  pub waits : (q : ℕ) → q < s .size → s .mark q ≡ 0
 
 -- ---- what an accepted call says of its place
 abbrev pub Supplying : State → ℕ → Float → Type 0
@@ -24,7 +29,7 @@ supplying s p d e = let a = supply-clean s p d e in (a .0, a .1, means s (a .0) 
 abbrev pub Giving : State → ℕ → Float → Type 0
 Giving s p d = Clean s × GiveSays s p d
 
-pub giving : (s : State) (p : ℕ) (d : Float) → (nextRefusal s ≡ 0) × (answer s ≡ Give p d) → Giving s p d
+pub giving : (s : State) (p : ℕ) (d : Float) → (nextRefusal s ≡ 0) × (answerOf s ≡ Give p d) → Giving s p d
 giving s p d e = let c = next-clean s (e .0) in (c, means s c (Give p d) (e .1))
 
 -- ---- a run cut in two
@@ -84,7 +89,7 @@ clean-supplied s p d g =
       held = λ q. at-or-else (λ x. x < s .size → supplied s p d .mark x ≡ 1 → Num (supplied s p d .distance x)) p q
           (λ h e. rw (put-here (s .distance) p d) (g .1))
           (λ o h e. rw (put-else (s .distance) p d q o) (g .0 .held q h (sym (put-else (s .mark) p 1 q o) ∙ e)));
-      bounded = λ q. at-or-else (λ x. x < s .size → supplied s p d .mark x ≤ 2) p q
+      bounded = λ q. at-or-else (λ x. x < s .size → supplied s p d .mark x ≤ mostMark) p q
           (λ h. omega (arith, put-here (s .mark) p 1)) (λ o h. omega (arith, put-else (s .mark) p 1 q o, g .0 .bounded q h));
     }
 
@@ -93,7 +98,7 @@ clean-given s p d g =
     record {
       numbers = g .0 .numbers;
       held = λ q h e. g .0 .held q h (given-asked s p q e);
-      bounded = λ q. at-or-else (λ x. x < s .size → given s p .mark x ≤ 2) p q
+      bounded = λ q. at-or-else (λ x. x < s .size → given s p .mark x ≤ mostMark) p q
           (λ h. omega (arith, put-here (s .mark) p 2)) (λ o h. omega (arith, put-else (s .mark) p 2 q o, g .0 .bounded q h));
     }
 

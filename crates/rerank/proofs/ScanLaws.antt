@@ -8,13 +8,13 @@ use native.Mathlib.Decide.{decLt, ℕ-discrete}
 use native.Mathlib.Nat.{zero-add}
 use native.Mathlib.Numerals.{add-one}
 use native.Mathlib.Omega.{arith}
-use borrow.Author.Tests.{ltb-true, ltb-false, lt-ltb, le-ltb, eqb-true, ne-eqb, not-false}
+use borrow.Author.Tests.{ltb-true, ltb-false, lt-ltb, le-ltb, eqb-true, not-false}
 use lib.Dec.{eqb, leb, ltb}
 use lib.ListN.{length, getD}
 use lib.Ieee.{binary32, nanBits}
 use lib.Ieee.Bits.{nanBits-above, nanBits-is}
 use Rattle.words.specs.Bytes.{numAt, f32At}
-use Rattle.words.specs.Limits.{mostPlaces}
+use Rattle.words.specs.Limits.{mostPlaces, mostMark}
 use Rattle.words.specs.Lists.{anyBelow}
 use Rattle.words.specs.Refusals.{badLength}
 use Rattle.words.specs.Sums.{sumTo}
@@ -22,7 +22,7 @@ use Rattle.words.proofs.RefusalLaws.{neither}
 use Rattle.words.proofs.SumLaws.{sum-more, sum-le}
 use Rattle.rerank.specs.Rerank.{missingAt, missing, badMark, nextRefusal}
 use Rattle.rerank.specs.Calls.{stateOf, badLists}
-use Rattle.rerank.specs.Scan.{keyOf, noKey, keyIf, lesser, keyAt, leastKey, lacks, lackAt, nanOne, aboveTwo, notZero, KeysTo, CountsOf, WithBlock, ScanTo}
+use Rattle.rerank.specs.Scan.{keyOf, noKey, keyIf, lesser, keyAt, leastKey, lacks, lackAt, nanOne, aboveMost, notZero, KeysTo, CountsOf, WithBlock, ScanTo}
 use Rattle.rerank.specs.Scan.{FirstAt}
 use Rattle.rerank.specs.declared.Keys.{Keys}
 use Rattle.rerank.specs.declared.Counts.{Counts}
@@ -75,11 +75,11 @@ counts-none m from = record { bad-is = omega arith; count-is = omega arith; few-
 pub counts-first : (m : List ℕ) (from to : ℕ) → from ≤ to → (from ≤ from) × (from ≤ to) × CountsOf m from from 0 0
 counts-first m from to h = (omega arith, h, counts-none m from)
 
-pub counts-more : (m : List ℕ) (from i bad count x y : ℕ) → CountsOf m from i bad count → x ≡ aboveTwo (getD m i 0) → x ≤ 1 → y ≡ notZero (getD m i 0) → y ≤ 1
+pub counts-more : (m : List ℕ) (from i bad count x y : ℕ) → CountsOf m from i bad count → x ≡ aboveMost (getD m i 0) → x ≤ 1 → y ≡ notZero (getD m i 0) → y ≤ 1
     → CountsOf m from (i + 1) (bad + x) (count + y)
 counts-more m from i bad count x y c p a q b =
     record {
-      bad-is = omega (arith, sum-more i (λ j. aboveTwo (getD m j 0)), c .bad-is);
+      bad-is = omega (arith, sum-more i (λ j. aboveMost (getD m j 0)), c .bad-is);
       count-is = omega (arith, sum-more i (λ j. notZero (getD m j 0)), c .count-is);
       few-bad = omega (arith, c .few-bad);
       few = omega (arith, c .few);
@@ -191,7 +191,7 @@ one-or-none false = omega arith
 
 pub scan-few : (e d m : List ℕ) (i : ℕ) (s : Scan) → ScanTo e d m i s → (s .bad ≤ i) × (s .count ≤ i)
 scan-few e d m i s k = (
-  rw (k .bad) (sum-few (λ j. aboveTwo (getD m j 0)) i (λ j. one-or-none (leb (getD m j 0) 2))),
+  rw (k .bad) (sum-few (λ j. aboveMost (getD m j 0)) i (λ j. one-or-none (leb (getD m j 0) mostMark))),
   rw (k .count) (sum-few (λ j. notZero (getD m j 0)) i (λ j. one-or-none (eqb (getD m j 0) 0))),
 )
 
@@ -251,7 +251,7 @@ module _ (e d m : List ℕ) (s : Scan) (k : ScanTo e d m (length m) s) where
 
   found-bad : ltb 0 (s .bad) ≡ badMark (stateOf e d m)
   unfolding badMark
-  found-bad = rw (k .bad) (any-sum (λ i. not (leb (getD m i 0) 2)) (λ i. aboveTwo (getD m i 0)) (length m) (λ i. go (leb (getD m i 0) 2)))
+  found-bad = rw (k .bad) (any-sum (λ i. not (leb (getD m i 0) mostMark)) (λ i. aboveMost (getD m i 0)) (length m) (λ i. go (leb (getD m i 0) mostMark)))
     where
       go : (b : Bool) → ltb 0 (cond b 0 1) ≡ not b
       go true = refl

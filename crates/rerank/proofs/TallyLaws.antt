@@ -1,9 +1,9 @@
--- The counts of a run: each candidate is handed out once, a list of n is finished by n supplies and n gives, the reported count is that of the
--- places no longer waiting, and a caller that supplies what is asked for comes to Done. Assumes nothing.
+-- The counts of a run: each candidate is handed out once, a list of n is finished by n supplies and n gives, and the reported count is that of
+-- the places no longer waiting. Assumes nothing.
 use mathlib.Core.Path.{_≡_, refl, sym, subst, ap, _∙_}
 use mathlib.Core.Bool.{Bool, true, false, _||_, cond}
 use mathlib.Core.List.{List, [], _∷_, _++_}
-use Prim.Native.Nat.{ℕ, zero, suc, _+_, _-_, _*_, _<_, _≤_}
+use Prim.Native.Nat.{ℕ, zero, suc, _+_, _*_, _<_, _≤_}
 use native.Mathlib.Decide.{decLt}
 use native.Mathlib.Nat.{zero-add}
 use native.Mathlib.Omega.{arith}
@@ -12,16 +12,14 @@ use lib.Dec.{eqb}
 use lib.Ieee.{Float}
 use Rattle.words.specs.Sums.{sumTo}
 use Rattle.words.proofs.SumLaws.{sum-ext, sum-const, sum-le}
-use Rattle.rerank.specs.Rerank.{State, put, answer, nextRefusal, supplyRefusal, given, supplied, oneOrTwo, counted, Event, asked, supply, gave, done}
-use Rattle.rerank.specs.Rerank.{Accepted, then, ran, Run, tally, aSupply, aGive, supplyOf, giveOf, drive}
-use Rattle.rerank.specs.Demand.{Fresh, notWaiting, Ends}
+use Rattle.rerank.specs.Rerank.{State, put, given, supplied, oneOrTwo, counted, Event, asked, supply, gave, done}
+use Rattle.rerank.specs.Rerank.{Accepted, then, ran, Run, tally, aSupply, aGive, supplyOf, giveOf}
+use Rattle.rerank.specs.Demand.{notWaiting}
 use Rattle.rerank.specs.Scan.{notZero}
-use Rattle.rerank.specs.declared.Answer.{Answer}
-use Rattle.rerank.specs.declared.Answer.the-variants.{Ask, Give, Done}
-use Rattle.rerank.proofs.OrderLaws.{Num}
+use Rattle.rerank.specs.declared.Answer.the-variants.{Done}
 use Rattle.rerank.proofs.LeastLaws.{put-here, put-else, at-or-else}
-use Rattle.rerank.proofs.RuleLaws.{Clean, next-clean, clean-next, clean-supply, means}
-use Rattle.rerank.proofs.RunLaws.{Supplying, supplying, Giving, giving, run-cut, ran-estimate, clean-then}
+use Rattle.rerank.proofs.RuleLaws.{Clean, next-clean, means}
+use Rattle.rerank.proofs.RunLaws.{Fresh, Supplying, supplying, Giving, giving, run-cut, ran-estimate}
 
 -- ---- numbers of a mark
 abbrev pub isTwo : ℕ → ℕ
@@ -47,11 +45,11 @@ sum-put g m p v (suc n) h =
 
 -- ---- what each call does to the sum
 module _ (g : ℕ → ℕ) (s : State) (p : ℕ) (d : Float) where
-  total-supplied : Supplying s p d → total g (supplied s p d) + g 0 ≡ total g s + g 1
+  pub total-supplied : Supplying s p d → total g (supplied s p d) + g 0 ≡ total g s + g 1
   total-supplied k =
       subst (λ (m : ℕ). total g (supplied s p d) + g m ≡ total g s + g 1) (k .2 .least .marked) (sum-put g (s .mark) p 1 (s .size) (k .2 .least .inside))
 
-  total-given : Giving s p d → total g (given s p) + g 1 ≡ total g s + g 2
+  pub total-given : Giving s p d → total g (given s p) + g 1 ≡ total g s + g 2
   total-given k =
       subst (λ (m : ℕ). total g (given s p) + g m ≡ total g s + g 2) (k .1 .least .marked) (sum-put g (s .mark) p 2 (s .size) (k .1 .least .inside))
 
@@ -103,14 +101,14 @@ step-give q s done a = omega arith
 done-two : (m : ℕ) → m ≤ 2 → (m ≡ 0 → ⊥) → (m ≡ 1 → ⊥) → m ≡ 2
 done-two m h a b = omega arith
 
-at-done : (s : State) → Accepted s done → (q : ℕ) → q < s .size → s .mark q ≡ 2
+pub at-done : (s : State) → Accepted s done → (q : ℕ) → q < s .size → s .mark q ≡ 2
 unfolding Accepted
 at-done s a q h =
     let c = next-clean s (a .0) in
     let m = means s c Done (a .1) in
     done-two (s .mark q) (c .bounded q h) (m .none-waits q h) (m .none-asked q h)
 
-total-each : (g : ℕ → ℕ) (s : State) (k c : ℕ) → ((q : ℕ) → q < s .size → s .mark q ≡ k) → g k ≡ c → total g s ≡ c * s .size
+pub total-each : (g : ℕ → ℕ) (s : State) (k c : ℕ) → ((q : ℕ) → q < s .size → s .mark q ≡ k) → g k ≡ c → total g s ≡ c * s .size
 total-each g s k c h e = sum-ext (s .size) (λ i. g (s .mark i)) (λ _. c) (λ i l. ap g (h i l) ∙ e) ∙ sum-const c (s .size)
 
 -- a run to Done from fresh marks
@@ -162,75 +160,3 @@ counted-few s = omega (arith, sum-le 1 (s .size) (λ i. oneOrTwo (s .mark i)) (�
     few : (b : Bool) → cond b 1 0 ≤ 1
     few true = omega arith
     few false = omega arith
-
--- ---- a caller that supplies what is asked for comes to Done: in fewer turns than `total left` counts, one for each supply, each Give and the Done
-abbrev left : ℕ → ℕ
-left m = 2 - m
-
-run-supply : (s : State) (p : ℕ) (d : Float) (es : List Event) → nextRefusal s ≡ 0 → answer s ≡ Ask p → supplyRefusal s p d ≡ 0 → Run (supplied s p d) es
-    → Run s (asked p ∷ supply p d ∷ es)
-unfolding Run Accepted then
-run-supply s p d es a b c r = ((a, b), (c, r))
-
-run-give : (s : State) (p : ℕ) (d : Float) (es : List Event) → nextRefusal s ≡ 0 → answer s ≡ Give p d → Run (given s p) es → Run s (gave p d ∷ es)
-unfolding Run Accepted then
-run-give s p d es a b r = ((a, b), r)
-
-run-done : (s : State) → nextRefusal s ≡ 0 → answer s ≡ Done → Run s (done ∷ [])
-unfolding Run Accepted then
-run-done s a b = ((a, b), tt)
-
-accept-supply : (s : State) (p : ℕ) (d : Float) → supplyRefusal s p d ≡ 0 → Clean (supplied s p d)
-unfolding Accepted then
-accept-supply s p d e = clean-then s (supply p d) e
-
-accept-give : (s : State) (p : ℕ) (d : Float) → nextRefusal s ≡ 0 → answer s ≡ Give p d → Clean (given s p)
-unfolding Accepted then
-accept-give s p d a b = clean-then s (gave p d) (a, b)
-
-drives : (n : ℕ) (table : ℕ → Float) (s : State) → Clean s → ((q : ℕ) → q < s .size → Num (table q)) → total left s < n → Ends s (drive n table s)
-unfolding drive
-drives zero table s c num h = absurd (omega arith)
-drives (suc n) table s c num h = go (λ t k e l. drives n table t k e l) (answer s) refl
-  where
-    turn : Answer → List Event
-    turn = elim [
-      | Ask p ↦ asked p ∷ supply p (table p) ∷ drive n table (supplied s p (table p))
-      | Give p d ↦ gave p d ∷ drive n table (given s p)
-      | Done ↦ done ∷ []
-    ]
-
-    go : ((t : State) → Clean t → ((q : ℕ) → q < t .size → Num (table q)) → total left t < n → Ends t (drive n table t)) → (x : Answer) → answer s ≡ x
-        → Ends s (turn x)
-    go again (Ask p) e =
-        let d = table p in
-        let m = means s c (Ask p) e in
-        let v : Num d = num p (m .least .inside) in
-        let a = clean-supply s p d c v e in
-        let k = again (supplied s p d) (accept-supply s p d a) num (omega (arith, total-supplied left s p d (c, v, m))) in
-        record {
-          calls = asked p ∷ supply p d ∷ k .calls;
-          last = ap {B = List Event} (λ l. asked p ∷ supply p d ∷ l) (k .last);
-          accepted = run-supply s p d (drive n table (supplied s p d)) (clean-next s c) e a (k .accepted);
-        }
-    go again (Give p d) e =
-        let k = again (given s p) (accept-give s p d (clean-next s c) e) num (omega (arith, total-given left s p d (c, means s c (Give p d) e))) in
-        record {
-          calls = gave p d ∷ k .calls;
-          last = ap {B = List Event} (λ l. gave p d ∷ l) (k .last);
-          accepted = run-give s p d (drive n table (given s p)) (clean-next s c) e (k .accepted);
-        }
-    go again Done e = record { calls = []; last = refl; accepted = run-done s (clean-next s c) e }
-
-pub fresh-clean : (s : State) → Fresh s → Clean s
-fresh-clean s f =
-    record {
-      numbers = f .numbers;
-      held = λ q h e. let z : _≡_ {A = ℕ} 0 1 = sym (f .waits q h) ∙ e in absurd (omega arith);
-      bounded = λ q h. omega (arith, f .waits q h);
-    }
-
--- so from fresh marks 2 * n + 1 turns are enough for n candidates, with any numbers for distances
-pub comes-to-done : (s : State) (table : ℕ → Float) → Fresh s → ((q : ℕ) → q < s .size → Num (table q)) → Ends s (drive (2 * s .size + 1) table s)
-comes-to-done s table f num =
-    drives (2 * s .size + 1) table s (fresh-clean s f) num (omega (arith, total-each left s 0 2 (f .waits) refl))

@@ -10,7 +10,7 @@ use lib.Ieee.{Float, binary32, toBits}
 use Rattle.words.specs.Bytes.{bytesOf, f32At, floatBytes}
 use Rattle.words.specs.Limits.{mostPlaces}
 use Rattle.words.specs.Refusals.{after, badLength}
-use Rattle.rerank.specs.Rerank.{State, answer, nextRefusal, supplyRefusal, counted}
+use Rattle.rerank.specs.Rerank.{State, answerOf, nextRefusal, supplyRefusal, counted}
 use Rattle.rerank.specs.declared.Answer.{Answer}
 use Rattle.rerank.specs.declared.Answer.the-variants.{Ask, Give, Done}
 
@@ -57,7 +57,7 @@ nextNumber e d m out = cond (badLists e d m || badLength out 16) 3 (nextRefusal 
 unfoldable pub nextAnswer : List ℕ → List ℕ → List ℕ → List ℕ → ℕ × List ℕ × List ℕ
 nextAnswer e d m out =
     let n = nextNumber e d m out in
-    let a = answer (stateOf e d m) in
+    let a = answerOf (stateOf e d m) in
     let marks = answerMarks a m in
     (n, after n m marks, after n out (answerBytes a (counted (stateOf e d marks))))
 

@@ -2,22 +2,16 @@
 use mathlib.Core.Path.{_≡_}
 use mathlib.Core.Bool.{true, false, cond}
 use mathlib.Core.List.{List, [], _∷_, _++_}
-use Prim.Native.Nat.{ℕ, _+_, _*_, _^_, _<_}
+use Prim.Native.Nat.{ℕ, zero, suc, _+_, _*_, _^_, _<_}
 use lib.Dec.{eqb}
+use lib.ListN.{length, replicate}
 use lib.Ieee.{Float, lt, isNan, ofBits, binary32}
 use Rattle.words.specs.Bytes.{numAt, f32At}
 use Rattle.words.specs.Sums.{sumTo}
-use Rattle.rerank.specs.Rerank.{State, answer, supplyRefusal, Event, asked, supply, gave, done, ran, Run, tally, aSupply, aGive, supplyOf, giveOf}
-use Rattle.rerank.specs.Rerank.{drive}
-use Rattle.rerank.specs.Calls.{stateOf, nextAnswer, supplyAnswer}
+use Rattle.rerank.specs.Rerank.{State, answerOf, supplyRefusal, Event, asked, supply, gave, done, ran, Run}
+use Rattle.rerank.specs.Rerank.{tally, anAsk, aSupply, aGive, supplyOf, giveOf}
+use Rattle.rerank.specs.Calls.{stateOf, badLists, nextAnswer, supplyAnswer}
 use Rattle.rerank.specs.declared.Answer.the-variants.{Ask}
-
--- ---- what is given
-
--- no candidate was asked for yet, and no estimate is a NaN
-pub record Fresh (s : State) : Type 0 where
-  pub waits : (q : ℕ) → q < s .size → s .mark q ≡ 0
-  pub numbers : (q : ℕ) → q < s .size → isNan (s .estimate q) ≡ false
 
 -- the premise: each supplied distance is not below its place's estimate
 unfoldable pub Lower : (ℕ → Float) → List Event → Type 0
@@ -27,7 +21,7 @@ Lower f (supply p d ∷ es) = (lt d (f p) ≡ false) × Lower f es
 Lower f (gave p d ∷ es) = Lower f es
 Lower f (done ∷ es) = Lower f es
 
--- ---- what holds of the accepted calls es from fresh lists on. `ran s fs` is the state after the calls fs
+-- ---- what holds of the accepted calls es from the state s of fresh lists on. `ran s fs` is the state after the calls fs
 
 -- the distance d was supplied for p
 pub record Supplied (p : ℕ) (d : Float) (es : List Event) : Type 0 where
@@ -38,7 +32,7 @@ pub record Supplied (p : ℕ) (d : Float) (es : List Event) : Type 0 where
 -- with or without the premise
 pub record Always (s : State) (es : List Event) : Type 0 where
   -- one by one: in each state only the place that Ask names can be supplied
-  pub one-by-one : (fs gs : List Event) (p : ℕ) (d : Float) → es ≡ fs ++ gs → supplyRefusal (ran s fs) p d ≡ 0 → answer (ran s fs) ≡ Ask p
+  pub one-by-one : (fs gs : List Event) (p : ℕ) (d : Float) → es ≡ fs ++ gs → supplyRefusal (ran s fs) p d ≡ 0 → answerOf (ran s fs) ≡ Ask p
   -- exact: what is handed out is the distance that was supplied for it
   pub exact : (fs gs : List Event) (p : ℕ) (d : Float) → es ≡ fs ++ (gave p d ∷ gs) → Supplied p d fs
   -- when one is handed out at d, every candidate with an estimate below d has been asked for
@@ -64,12 +58,6 @@ pub record Finished (s : State) (es : List Event) : Type 0 where
   pub distances : tally aSupply es ≡ s .size
   pub gives : tally aGive es ≡ s .size
 
--- a run to Done
-pub record Ends (s : State) (es : List Event) : Type 0 where
-  pub calls : List Event
-  pub last : es ≡ calls ++ (done ∷ [])
-  pub accepted : Run s es
-
 -- ---- the same over bytes
 
 -- the lists that the calls are lent, and that only they change
@@ -77,6 +65,10 @@ pub record Lists : Type 0 where
   pub estimates : List ℕ
   pub distances : List ℕ
   pub marks : List ℕ
+
+-- fresh lists of n places: no candidate was asked for yet
+abbrev pub fresh : ℕ → List ℕ → List ℕ → Lists
+fresh n estimates distances = record { estimates = estimates; distances = distances; marks = replicate n 0 }
 
 -- one call, with what `out` holds before it. A float parameter is any bit pattern
 pub data Call : Type 0 where
@@ -113,10 +105,14 @@ unfoldable pub reported : Call → Answered → ℕ
 reported (next out) r = numAt 4 (r .out) 12
 reported (supplies place bits out) r = numAt 4 (r .out) 0
 
--- the lists after some calls, refused ones among them, and the events that they were heard to make
+-- the lists after some calls, refused ones among them, the numbers that they returned, and the events that they were heard to make
 unfoldable pub left : Lists → List Call → Lists
 left b [] = b
 left b (c ∷ cs) = left (call b c .lists) cs
+
+unfoldable pub numbers : Lists → List Call → List ℕ
+numbers b [] = []
+numbers b (c ∷ cs) = call b c .number ∷ numbers (call b c .lists) cs
 
 unfoldable pub heard : Lists → List Call → List Event
 heard b [] = []
@@ -126,6 +122,32 @@ heard b (c ∷ cs) = seen c (call b c) ++ heard (call b c .lists) cs
 unfoldable pub notWaiting : State → ℕ
 notWaiting s = sumTo (s .size) (λ i. cond (eqb (s .mark i) 0) 0 1)
 
+-- ---- a caller that supplies what is asked for
+
+-- what it does after an answer: at Ask it supplies the distance of the place, from a table of the distances' bits
+abbrev pub reply : (ℕ → ℕ) → Event → List Call
+reply table (asked p) = supplies p (table p) (replicate 4 0) ∷ []
+reply table (supply p d) = []
+reply table (gave p d) = []
+reply table done = []
+
+-- a turn of it is a call of next, and the reply; and k turns, one after the other
+unfoldable pub turn : (ℕ → ℕ) → Lists → List Call
+turn table b = let c = next (replicate 16 0) in c ∷ reply table (told (call b c .out))
+
+unfoldable pub turns : ℕ → (ℕ → ℕ) → Lists → List Call
+turns zero table b = []
+turns (suc k) table b = turn table b ++ turns k table (left b (turn table b))
+
+-- calls that finish lists of n places: all are accepted, and what is heard is n Asks, n distances, n Gives, and then Done
+pub record Finishes (n : ℕ) (b : Lists) (cs : List Call) : Type 0 where
+  pub accepted : numbers b cs ≡ replicate (length cs) 0
+  pub events : List Event
+  pub to-done : heard b cs ≡ events ++ (done ∷ [])
+  pub asks : tally anAsk events ≡ n
+  pub distances : tally aSupply events ≡ n
+  pub gives : tally aGive events ≡ n
+
 -- demand 3. b is any lent lists, cs any calls on them, and nothing else changes them. (Lists of other lengths, or of more than 4,096 places,
 -- are refused, and nothing is heard.)
 pub record Demand : Type 0 where
@@ -133,11 +155,14 @@ pub record Demand : Type 0 where
   pub runs : (b : Lists) (cs : List Call) → Run (held b) (heard b cs) × (held (left b cs) ≡ ran (held b) (heard b cs))
   -- the count that an accepted call reports is that of the candidates no longer waiting
   pub counts : (b : Lists) (c : Call) → call b c .number ≡ 0 → reported c (call b c) ≡ notWaiting (held (call b c .lists))
-  pub always : (b : Lists) (cs : List Call) → Fresh (held b) → Always (held b) (heard b cs)
-  pub ordered : (b : Lists) (cs : List Call) → Fresh (held b) → Lower (held b .estimate) (heard b cs) → Ordered (held b) (heard b cs)
-  pub finished : (b : Lists) (cs : List Call) (es : List Event) → Fresh (held b) → heard b cs ≡ es ++ (done ∷ []) → Finished (held b) es
-  -- a caller that supplies a number for whatever is asked for comes to Done, in at most 2 n + 1 turns
-  pub ends : (s : State) (table : ℕ → Float) → Fresh s → ((q : ℕ) → q < s .size → isNan (table q) ≡ false)
-      → Ends s (drive (2 * s .size + 1) table s)
+  -- from fresh lists on
+  pub always : (n : ℕ) (e d : List ℕ) (cs : List Call) → let b = fresh n e d in Always (held b) (heard b cs)
+  pub ordered : (n : ℕ) (e d : List ℕ) (cs : List Call) → let b = fresh n e d in Lower (f32At e) (heard b cs) → Ordered (held b) (heard b cs)
+  pub finished : (n : ℕ) (e d : List ℕ) (cs : List Call) (es : List Event) → let b = fresh n e d in heard b cs ≡ es ++ (done ∷ []) → Finished (held b) es
+  -- fresh lists of n places, of the right lengths and with no NaN among the estimates, are finished by 2 n + 1 turns of a caller that has a
+  -- distance that is no NaN for every place
+  pub ends : (n : ℕ) (e d : List ℕ) (table : ℕ → ℕ) → let b = fresh n e d in badLists e d (b .marks) ≡ false
+      → ((q : ℕ) → q < n → isNan (f32At e q) ≡ false) → ((q : ℕ) → q < n → isNan (ofBits binary32 (table q)) ≡ false)
+      → Finishes n b (turns (2 * n + 1) table b)
   -- floats that are no NaN are equal only where their bits are: so what is handed out has the bits that were supplied
   pub bits : (u v : ℕ) → u < 2 ^ 32 → v < 2 ^ 32 → isNan (ofBits binary32 u) ≡ false → ofBits binary32 u ≡ ofBits binary32 v → u ≡ v

@@ -1,5 +1,4 @@
 pub mod Rerank
 pub mod Calls
 pub mod Demand
-pub mod Examples
 pub mod Scan

@@ -6,6 +6,7 @@ use mathlib.Core.Option.{Option, none, some}
 use Prim.Native.Nat.{ℕ, zero, suc, _+_, _<_}
 use lib.Dec.{leb, eqb}
 use lib.Ieee.{Float, lt, isNan}
+use Rattle.words.specs.Limits.{mostMark}
 use Rattle.words.specs.Lists.{anyBelow}
 use Rattle.words.specs.Sums.{sumTo}
 use Rattle.rerank.specs.declared.Answer.{Answer}
@@ -37,7 +38,8 @@ unfolding better
 least k f marks zero = none
 least k f marks (suc i) = let b = least k f marks i in cond (eqb (marks i) k) (better f i b) b
 
--- the same as a relation: no other value is below p's, and p's is below those of the places before it
+-- the same as a relation: no other value is below p's, and p's is below those of the places before it. `least` gives a place of which this
+-- holds, and none where no place has the mark (`least-says` of proofs/LeastLaws, for values that are no NaN)
 pub record IsLeast (k : ℕ) (f : ℕ → Float) (marks : ℕ → ℕ) (n p : ℕ) : Type 0 where
   pub inside : p < n
   pub marked : marks p ≡ k
@@ -53,9 +55,10 @@ choose s none (some a) = Give a (s .distance a)
 choose s (some w) none = Ask w
 choose s (some w) (some a) = cond (lt (s .estimate w) (s .distance a)) (Ask w) (Give a (s .distance a))
 
-unfoldable pub answer : State → Answer
+-- what the rule answers in a state
+unfoldable pub answerOf : State → Answer
 unfolding choose least
-answer s = choose s (least 0 (s .estimate) (s .mark) (s .size)) (least 1 (s .distance) (s .mark) (s .size))
+answerOf s = choose s (least 0 (s .estimate) (s .mark) (s .size)) (least 1 (s .distance) (s .mark) (s .size))
 
 -- a place is now asked for exactly when the answer would be Ask of it
 unfoldable pub asksFor : Answer → ℕ → Bool
@@ -63,7 +66,7 @@ asksFor (Ask q) p = eqb p q
 asksFor (Give q d) p = false
 asksFor Done p = false
 
--- ---- refusals: MISSING is a NaN estimate at any place or a NaN distance at an asked one, BAD_VALUE a mark above 2
+-- ---- refusals: MISSING is a NaN estimate at any place or a NaN distance at an asked one, BAD_VALUE a mark above the greatest
 
 unfoldable pub missingAt : State → ℕ → Bool
 missingAt s i = isNan (s .estimate i) || (eqb (s .mark i) 1 && isNan (s .distance i))
@@ -74,15 +77,15 @@ missing s = anyBelow (s .size) (missingAt s)
 
 unfoldable pub badMark : State → Bool
 unfolding anyBelow
-badMark s = anyBelow (s .size) (λ i. not (leb (s .mark i) 2))
+badMark s = anyBelow (s .size) (λ i. not (leb (s .mark i) mostMark))
 
 unfoldable pub nextRefusal : State → ℕ
 unfolding missing badMark
 nextRefusal s = cond (missing s) 4 (cond (badMark s) 5 0)
 
 unfoldable pub supplyRefusal : State → ℕ → Float → ℕ
-unfolding missing badMark asksFor answer
-supplyRefusal s p d = cond (missing s || isNan d) 4 (cond (badMark s) 5 (cond (asksFor (answer s) p) 0 9))
+unfolding missing badMark asksFor answerOf
+supplyRefusal s p d = cond (missing s || isNan d) 4 (cond (badMark s) 5 (cond (asksFor (answerOf s) p) 0 9))
 
 -- ---- what an accepted call leaves, and the count that it reports
 
@@ -110,10 +113,10 @@ pub data Event : Type 0 where
 
 -- in the state s the call is accepted, and next answers so
 unfoldable pub Accepted : State → Event → Type 0
-Accepted s (asked p) = (nextRefusal s ≡ 0) × (answer s ≡ Ask p)
+Accepted s (asked p) = (nextRefusal s ≡ 0) × (answerOf s ≡ Ask p)
 Accepted s (supply p d) = supplyRefusal s p d ≡ 0
-Accepted s (gave p d) = (nextRefusal s ≡ 0) × (answer s ≡ Give p d)
-Accepted s done = (nextRefusal s ≡ 0) × (answer s ≡ Done)
+Accepted s (gave p d) = (nextRefusal s ≡ 0) × (answerOf s ≡ Give p d)
+Accepted s done = (nextRefusal s ≡ 0) × (answerOf s ≡ Done)
 
 unfoldable pub then : State → Event → State
 then s (asked p) = s
@@ -136,7 +139,13 @@ unfoldable pub tally : (Event → ℕ) → List Event → ℕ
 tally f [] = 0
 tally f (e ∷ es) = f e + tally f es
 
--- so these tell how often any place was supplied or given, and how often place p was
+-- so these tell how often any place was asked for, supplied or given, and how often place p was
+abbrev pub anAsk : Event → ℕ
+anAsk (asked q) = 1
+anAsk (supply q d) = 0
+anAsk (gave q d) = 0
+anAsk done = 0
+
 abbrev pub aSupply : Event → ℕ
 aSupply (asked q) = 0
 aSupply (supply q d) = 1
@@ -160,14 +169,3 @@ giveOf p (asked q) = 0
 giveOf p (supply q d) = 0
 giveOf p (gave q d) = cond (eqb p q) 1 0
 giveOf p done = 0
-
--- a caller that supplies what is asked for, from a table of distances, until Done or until its turns are used up: the events of its calls
-unfoldable pub drive : ℕ → (ℕ → Float) → State → List Event
-unfolding answer
-drive zero table s = []
-drive (suc n) table s =
-    elim (answer s) [
-      | Ask p ↦ asked p ∷ supply p (table p) ∷ drive n table (supplied s p (table p))
-      | Give p d ↦ gave p d ∷ drive n table (given s p)
-      | Done ↦ done ∷ []
-    ]

@@ -7,8 +7,9 @@ use lib.Dec.{eqb, leb, ltb}
 use lib.ListN.{length, getD}
 use lib.Ieee.{binary32, nanBits}
 use Rattle.words.specs.Bytes.{numAt}
+use Rattle.words.specs.Limits.{mostMark}
 use Rattle.words.specs.Sums.{sumTo}
-use Rattle.rerank.specs.Rerank.{answer, nextRefusal, counted}
+use Rattle.rerank.specs.Rerank.{answerOf, nextRefusal, counted}
 use Rattle.rerank.specs.Calls.{stateOf, badLists}
 use Rattle.rerank.specs.declared.Keys.{Keys}
 use Rattle.rerank.specs.declared.Counts.{Counts}
@@ -48,9 +49,9 @@ lacks m e d = nanOne e + cond (eqb m 1) (nanOne d) 0
 unfoldable pub lackAt : List ℕ → List ℕ → List ℕ → ℕ → ℕ
 lackAt e d m i = lacks (getD m i 0) (numAt 4 e (4 * i)) (numAt 4 d (4 * i))
 
--- 1 where the mark is above 2, and where it is not 0
-abbrev pub aboveTwo : ℕ → ℕ
-aboveTwo m = cond (leb m 2) 0 1
+-- 1 where the mark is above the greatest, and where it is not 0
+abbrev pub aboveMost : ℕ → ℕ
+aboveMost m = cond (leb m mostMark) 0 1
 
 abbrev pub notZero : ℕ → ℕ
 notZero m = cond (eqb m 0) 0 1
@@ -61,16 +62,16 @@ pub record KeysTo (e d m : List ℕ) (i : ℕ) (s : Keys) : Type 0 where
   pub waiting : s .waiting ≡ leastKey i (keyAt 0 e m)
   pub asked : s .asked ≡ leastKey i (keyAt 1 d m)
 
--- and of the marks from one place up to another: how many are above 2, and how many are not 0
+-- and of the marks from one place up to another: how many are above the greatest, and how many are not 0
 pub record CountsOf (m : List ℕ) (from to bad count : ℕ) : Type 0 where
-  pub bad-is : sumTo to (λ i. aboveTwo (getD m i 0)) ≡ sumTo from (λ i. aboveTwo (getD m i 0)) + bad
+  pub bad-is : sumTo to (λ i. aboveMost (getD m i 0)) ≡ sumTo from (λ i. aboveMost (getD m i 0)) + bad
   pub count-is : sumTo to (λ i. notZero (getD m i 0)) ≡ sumTo from (λ i. notZero (getD m i 0)) + count
   pub few-bad : bad + from ≤ to
   pub few : count + from ≤ to
 
 pub record ScanTo (e d m : List ℕ) (i : ℕ) (s : Scan) : Type 0 where
   pub keys : KeysTo e d m i (s .keys)
-  pub bad : s .bad ≡ sumTo i (λ j. aboveTwo (getD m j 0))
+  pub bad : s .bad ≡ sumTo i (λ j. aboveMost (getD m j 0))
   pub count : s .count ≡ sumTo i (λ j. notZero (getD m j 0))
   -- no place before these has the least key
   pub waits-from : (q : ℕ) → q < s .«waits_from» → s .keys .waiting < keyAt 0 e m q
@@ -93,7 +94,7 @@ pub record Accepting (e d m : List ℕ) (s : Scan) : Type 0 where
 -- what a call on the lists is refused with, or the answer and the count
 pub record Ruled (e d m : List ℕ) (r : Ruling) : Type 0 where
   pub refusal : r .refused ≡ nextRefusal (stateOf e d m)
-  pub says : r .refused ≡ 0 → (r .answer ≡ answer (stateOf e d m)) × (r .count ≡ counted (stateOf e d m))
+  pub says : r .refused ≡ 0 → (r .answer ≡ answerOf (stateOf e d m)) × (r .count ≡ counted (stateOf e d m))
 
 -- r is the first place from `from` on whose key this is, and n where there is none
 pub record FirstAt (g : ℕ → ℕ) (from n key r : ℕ) : Type 0 where

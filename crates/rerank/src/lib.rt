@@ -8,9 +8,9 @@ ghost use lib.Dec.{eqb, ltb};
 ghost use lib.ListN.{length};
 ghost use Rattle.words.specs.Bytes.{bytesOf, floatBytes};
 ghost use Rattle.words.specs.Limits.{mostPlaces};
-ghost use Rattle.rerank.specs.Rerank.{answer, asksFor};
+ghost use Rattle.rerank.specs.Rerank.{answerOf, asksFor};
 ghost use Rattle.rerank.specs.Calls.{stateOf, badLists, nextAnswer, supplyAnswer, answerBytes, answerMarks};
-ghost use Rattle.rerank.specs.Scan.{keyOf, noKey, keyIf, lesser, keyAt, nanOne, lacks, aboveTwo, notZero, KeysTo, CountsOf, WithBlock, ScanTo, FirstAt};
+ghost use Rattle.rerank.specs.Scan.{keyOf, noKey, keyIf, lesser, keyAt, nanOne, lacks, aboveMost, notZero, KeysTo, CountsOf, WithBlock, ScanTo, FirstAt};
 ghost use Rattle.rerank.specs.Scan.{Accepting, Ruled};
 
 // What the rule says to do next: ask for a place's distance, hand a place out, or nothing.
@@ -103,10 +103,10 @@ fn add_keys(start: Keys, e: &[u8], d: &[u8], m: &[u8], from: usize, to: usize) -
     s
 }
 
-fn above_two(m: u8) -> u8
-    ensures { λ r. ⌜ (r ≡ aboveTwo m) × (r ≤ 1) ⌝ }
+fn above_most(m: u8) -> u8
+    ensures { λ r. ⌜ (r ≡ aboveMost m) × (r ≤ 1) ⌝ }
 {
-    if m <= 2 { 0 } else { 1 }
+    if m <= words::MOST_MARK { 0 } else { 1 }
 }
 
 fn not_zero(m: u8) -> u8
@@ -115,7 +115,7 @@ fn not_zero(m: u8) -> u8
     if m == 0 { 0 } else { 1 }
 }
 
-// How many marks are above 2, and how many are not 0.
+// How many marks are above the greatest, and how many are not 0.
 struct Counts {
     bad: u8,
     count: u8,
@@ -130,7 +130,7 @@ fn count_marks(m: &[u8], from: usize, to: usize) -> Counts
     let mut count = 0u8;
     let mut i = from;
     while i < to {
-        bad += above_two(m[i]);
+        bad += above_most(m[i]);
         count += not_zero(m[i]);
         i += 1;
     }
@@ -240,7 +240,7 @@ fn bad_lists(e: &[u8], d: &[u8], m: &[u8]) -> bool
 // What the rule says, by what the scan found. NO_KEY is above every key, so that no test for an empty set is needed before the first.
 fn choose(e: &[u8], d: &[u8], m: &[u8], s: Scan) -> Answer
     requires { ⌜ Accepting (now e) (now d) (now m) s ⌝ }
-    ensures { λ r. ⌜ r ≡ answer (stateOf (now (e .entry)) (now (d .entry)) (now (m .entry))) ⌝ }
+    ensures { λ r. ⌜ r ≡ answerOf (stateOf (now (e .entry)) (now (d .entry)) (now (m .entry))) ⌝ }
 {
     let keys = s.keys;
     if keys.waiting < keys.asked {

@@ -24,3 +24,7 @@ mostRecords = 1048576
 -- the most places of a list of candidates
 abbrev pub mostPlaces : ℕ
 mostPlaces = 4096
+
+-- the greatest mark of a candidate: 0 waiting, 1 asked, 2 given
+abbrev pub mostMark : ℕ
+mostMark = 2

@@ -42,6 +42,8 @@ pub const MOST_RECORDS: u32 = 1048576;
 
 pub const MOST_PLACES: usize = 4096;
 
+pub const MOST_MARK: u8 = 2;
+
 pub enum Metric {
     L2,
     Dot,

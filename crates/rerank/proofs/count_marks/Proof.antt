@@ -17,11 +17,11 @@ abbrev μ-loop : tie.MeasureT-loop
 loop-holds : tie.Need-loop-holds Inv-loop μ-loop
 loop-holds c = counts-first _ _ _ (omega arith)
 
-shared-slice-read-above-two : tie.Need-shared-slice-read-above-two Inv-loop μ-loop
-shared-slice-read-above-two c = search needs
+shared-slice-read-above-most : tie.Need-shared-slice-read-above-most Inv-loop μ-loop
+shared-slice-read-above-most c = search needs
 
-above-two-requires : tie.Need-above-two-requires Inv-loop μ-loop
-above-two-requires c κs = search needs
+above-most-requires : tie.Need-above-most-requires Inv-loop μ-loop
+above-most-requires c κs = search needs
 
 add-bad : tie.Need-add-bad Inv-loop μ-loop
 add-bad c = search needs
@@ -44,7 +44,7 @@ loop-less c = search needs
 loop-again : tie.Need-loop-again Inv-loop μ-loop
 loop-again c =
     let loop = c .before .before .before .before .before .loop .inv in
-    let abovet = c .before .before .above-two .ensures in
+    let abovet = c .before .before .above-most .ensures in
     (omega arith, omega arith, counts-more _ _ _ _ _ _ _ (loop .2) (abovet .0) (abovet .1) (c .not-zero .ensures .0) (c .not-zero .ensures .1))
 
 returns : tie.Need-returns Inv-loop μ-loop
@@ -59,8 +59,8 @@ count-marks-spec =
     Inv-loop
     μ-loop
     loop-holds
-    shared-slice-read-above-two
-    above-two-requires
+    shared-slice-read-above-most
+    above-most-requires
     add-bad
     shared-slice-read-not-zero
     not-zero-requires

@@ -10,7 +10,8 @@
  * another one.
  * A call that refuses leaves every byte of every buffer as it was. No call keeps a pointer, allocates or has a
  * state of its own, so calls from several threads on buffers of their own are fine.
- * The stack that a call takes: lk_walk at most 88 KiB, the calls on a block's sums and estimates 72 KiB, every other 4 KiB.
+ * The stack that a call takes: lk_walk and the calls on a block's estimates at most 92 KiB, lk_block_sums 72 KiB,
+ * every other 4 KiB.
  * A NaN that a call works out is written as the pattern 0x7FC00000. Factors are copied bit for bit.
  *
  * Names of lengths below: W(bits, dims) = ceil(dims * bits / 8); C(dims) = 16 + 8 * ceil(dims / 64);

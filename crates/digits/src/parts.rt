@@ -5,11 +5,14 @@ ghost use mathlib.Core.Bool.{true, false};
 ghost use Prim.Native.Nat.{ℕ, _+_, _*_, _/_, _%_, _^_, _≤_, _<_, max};
 ghost use lib.Dec.{ltb};
 ghost use lib.ListN.{length, getD};
+ghost use Rattle.words.specs.Bytes.{numAt};
 ghost use Rattle.words.specs.Digits.{join};
 ghost use Rattle.words.specs.Limits.{mostScalarDims};
 ghost use Rattle.digits.specs.Digits.{bitsOf, isWidth, levels, top, perByte, packedSize, digitAt, packed};
 ghost use Rattle.digits.specs.Calls.{aboveTop};
 use super::Width;
+use words::u32_at;
+use words::u64_at;
 
 // How many bytes dims codes take.
 pub fn packed_size(w: Width, dims: usize) -> usize
@@ -93,13 +96,74 @@ fn pack_bits(bits: u32, per: usize, codes: &[u8], out: &mut [u8])
     let mut k = 0usize;
     let mut at = 0usize;
     while at + per <= codes.len() {
-        out[k] = join_codes(bits, per, codes, at);
+        out[k] = join_whole(bits, per, codes, at);
         k += 1;
         at += per;
     }
     if at < codes.len() {
         out[k] = join_codes(bits, codes.len() - at, codes, at);
     }
+}
+
+// The codes of a whole byte, from place at on.
+fn join_whole(bits: u32, per: usize, codes: &[u8], at: usize) -> u8
+    requires { ⌜ (isWidth bits ≡ true) × (per ≡ perByte bits) × (at + per ≤ length (now codes)) × (aboveTop (top bits) (now codes) ≡ false) ⌝ }
+    ensures { λ r. ⌜ r ≡ join bits per (λ j. getD (now (codes .entry)) (at + j) 0) ⌝ }
+{
+    if bits == 1 {
+        return join_eight(codes, at);
+    }
+    if bits == 2 {
+        return join_four(codes, at);
+    }
+    if bits == 4 {
+        return join_two(codes, at);
+    }
+    join_codes(bits, per, codes, at)
+}
+
+// The next three read the codes as one number, with a code in each byte of it, and bring neighbours together: first codes, then
+// pairs, then fours. A loop over the codes of a byte becomes a load for each of them, at five to ten times the price.
+fn join_eight(codes: &[u8], at: usize) -> u8
+    requires { ⌜ (at + 8 ≤ length (now codes)) × (aboveTop (top 1) (now codes) ≡ false) ⌝ }
+    ensures { λ r. ⌜ r ≡ join 1 8 (λ j. getD (now (codes .entry)) (at + j) 0) ⌝ }
+{
+    let x = u64_at(codes, at);
+    let pairs = x + x / 0x80;
+    let fours = pairs + pairs / 0x4000;
+    ((fours + fours / 0x1000_0000) % 256) as u8
+}
+
+fn join_four(codes: &[u8], at: usize) -> u8
+    requires { ⌜ (at + 4 ≤ length (now codes)) × (aboveTop (top 2) (now codes) ≡ false) ⌝ }
+    ensures { λ r. ⌜ r ≡ join 2 4 (λ j. getD (now (codes .entry)) (at + j) 0) ⌝ }
+{
+    let x = u32_at(codes, at);
+    let pairs = x + x / 0x40;
+    ((pairs + pairs / 0x1000) % 256) as u8
+}
+
+fn join_two(codes: &[u8], at: usize) -> u8
+    requires { ⌜ (at + 2 ≤ length (now codes)) × (aboveTop (top 4) (now codes) ≡ false) ⌝ }
+    ensures { λ r. ⌜ r ≡ join 4 2 (λ j. getD (now (codes .entry)) (at + j) 0) ⌝ }
+{
+    let end = at + 2;
+    let x = half(&codes[at..end]);
+    ((x + x / 0x10) % 256) as u8
+}
+
+// The 16-bit number that two bytes write, lowest first.
+fn half(p: &[u8]) -> u16
+    requires { ⌜ length (now p) ≡ 2 ⌝ }
+    ensures { λ r. ⌜ r ≡ numAt 2 (now (p .entry)) 0 ⌝ }
+{
+    wide(p[0]) + wide(p[1]) * 0x100
+}
+
+fn wide(x: u8) -> u16
+    ensures { λ r. ⌜ (r ≡ x) × (r < 256) ⌝ }
+{
+    x as u16
 }
 
 // n codes from place at on, in one byte.

@@ -1,11 +1,16 @@
 // Module 7: the rough estimate and the lower bound, of a single code and of the 32 lanes of a block.
 ghost use mathlib.Core.Path.{_≡_};
+ghost use Prim.Native.Nat.{_*_, _≤_};
 ghost use lib.ListN.{length};
 ghost use Rattle.code.specs.Code.{codeSize};
-ghost use Rattle.block.specs.Block.{blockSize};
+ghost use Rattle.block.specs.Block.{blockGroups, blockSize};
 ghost use Rattle.sums.specs.Held.{Query as Codes};
 ghost use Rattle.estimate.specs.Record.{codeEstimate, laneWords};
 ghost use Rattle.estimate.specs.Calls.{codeAnswer, blockAnswer};
+use sums::parts::FEW_DIMS;
+use sums::parts::FEW_WIDE;
+use sums::parts::MIDDLING_DIMS;
+use sums::parts::MIDDLING_WIDE;
 use sums::parts::PLANES;
 use sums::parts::WIDE;
 use sums::parts::lanes::fill_wide;
@@ -51,14 +56,39 @@ fn one_code(w: Asked, m: Metric, v: Query, q: &[u8], code: &[u8]) -> f32
     parts::code_estimate(w, m, parts::ready(v, q), q, &planes, code)
 }
 
+// The 32 lanes of one block, with a table in a buffer of its size or a longer one.
+fn table_block(
+    w: Asked,
+    m: Metric,
+    v: Query,
+    q: &[u8],
+    table: &mut [u8],
+    block: &[u8],
+    out: &mut [u8],
+)
+    requires { ⌜ Codes (now q) × (length (now block) ≡ blockSize (length (now q))) × (length (now out) ≡ 128) ⌝ }
+    requires { ⌜ 64 * blockGroups (length (now q)) ≤ length (now table) ⌝ }
+    ensures { λ _. ⌜ now (out .exit) ≡ laneWords w m v (now (q .entry)) (now (block .entry)) ⌝ }
+{
+    fill_wide(q, table);
+    parts::put_lanes(w, m, parts::ready(v, q), q, table, block, out);
+}
+
 // The 32 lanes of one block, with a table of their own.
 fn one_block(w: Asked, m: Metric, v: Query, q: &[u8], block: &[u8], out: &mut [u8])
     requires { ⌜ Codes (now q) × (length (now block) ≡ blockSize (length (now q))) × (length (now out) ≡ 128) ⌝ }
     ensures { λ _. ⌜ now (out .exit) ≡ laneWords w m v (now (q .entry)) (now (block .entry)) ⌝ }
 {
-    let mut table = [0u8; WIDE];
-    fill_wide(q, &mut table);
-    parts::put_lanes(w, m, parts::ready(v, q), q, &table, block, out);
+    if q.len() <= FEW_DIMS {
+        let mut table = [0u8; FEW_WIDE];
+        table_block(w, m, v, q, &mut table, block, out);
+    } else if q.len() <= MIDDLING_DIMS {
+        let mut table = [0u8; MIDDLING_WIDE];
+        table_block(w, m, v, q, &mut table, block, out);
+    } else {
+        let mut table = [0u8; WIDE];
+        table_block(w, m, v, q, &mut table, block, out);
+    }
 }
 
 // The number asked for of a single code, as the four bytes of out.

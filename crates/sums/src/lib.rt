@@ -2,7 +2,6 @@
 ghost use mathlib.Core.Path.{_≡_};
 ghost use Rattle.sums.specs.Calls.{querySumAnswer, codeSumAnswer, blockSumsAnswer};
 use parts::PLANES;
-use parts::WIDE;
 use parts::lanes::put_sums;
 use parts::query::above_top;
 use parts::query::total;
@@ -81,8 +80,7 @@ pub fn block_sums(dims: u32, query: &[u8], block: &[u8], out: &mut [u8]) -> u32
     if above_top(query) {
         return BAD_VALUE;
     }
-    let mut t = [0u8; WIDE];
-    let sums = parts::lanes::block_sums(query, block, &mut t);
+    let sums = parts::lanes::block_sums(query, block);
     put_sums(out, &sums);
     ACCEPTED
 }

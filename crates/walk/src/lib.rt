@@ -8,7 +8,7 @@ ghost use lib.ListN.{length, take, drop, replicate};
 ghost use Rattle.words.specs.Bytes.{bytesOf, wordsOf};
 ghost use Rattle.words.specs.Limits.{mostDims, mostPlaces};
 ghost use Rattle.words.specs.Refusals.{badForm};
-ghost use Rattle.block.specs.Block.{blockSize};
+ghost use Rattle.block.specs.Block.{blockGroups, blockSize};
 ghost use Rattle.sums.specs.Held as held;
 ghost use Rattle.sums.specs.Held.{Query as Codes};
 ghost use Rattle.estimate.specs.Calls.{queryNumber};
@@ -24,6 +24,10 @@ use estimate::parts::code_estimate;
 use estimate::parts::put_lanes;
 use estimate::parts::query_refusal;
 use estimate::parts::ready;
+use sums::parts::FEW_DIMS;
+use sums::parts::FEW_WIDE;
+use sums::parts::MIDDLING_DIMS;
+use sums::parts::MIDDLING_WIDE;
 use sums::parts::PLANES;
 use sums::parts::WIDE;
 use sums::parts::lanes::fill_wide;
@@ -119,7 +123,35 @@ fn put_block(m: Metric, p: Ready, q: &[u8], table: &[u8], block: &[u8], buf: &mu
     put_lanes(Asked::LowerBound, m, p, q, table, block, &mut buf[at..end]);
 }
 
-// The bounds of all lanes of count blocks from block first on: each block is summed once.
+// The bounds of all lanes of count blocks from block first on: each block is summed once. The table is a buffer of its size or a
+// longer one.
+fn fill_by_table(
+    m: Metric,
+    p: Ready,
+    q: &[u8],
+    table: &mut [u8],
+    records: &[u8],
+    blocks: usize,
+    first: usize,
+    count: usize,
+    buf: &mut [u8],
+)
+    requires { ⌜ Codes (now q) × IsReady (now q) p × BlockRange (now q) (now records) blocks first count × (128 * count ≤ length (now buf)) ⌝ }
+    requires { ⌜ 64 * blockGroups (length (now q)) ≤ length (now table) ⌝ }
+    ensures { λ _. ⌜ take (128 * count) (now (buf .exit))
+        ≡ boundWords Layout.Blocks m (p .v) (now (q .entry)) (now (records .entry)) (32 * first) (32 * count) ⌝ }
+{
+    fill_wide(q, table);
+    let size = block::parts::size(q.len());
+    let mut b = 0usize;
+    while b < count {
+        let block = record_at(records, first + b, blocks, size);
+        put_block(m, p, q, table, block, buf, b);
+        b += 1;
+    }
+}
+
+// The same with a table of the walk's own.
 fn fill_blocks(
     m: Metric,
     p: Ready,
@@ -134,14 +166,15 @@ fn fill_blocks(
     ensures { λ _. ⌜ take (128 * count) (now (buf .exit))
         ≡ boundWords Layout.Blocks m (p .v) (now (q .entry)) (now (records .entry)) (32 * first) (32 * count) ⌝ }
 {
-    let mut table = [0u8; WIDE];
-    fill_wide(q, &mut table);
-    let size = block::parts::size(q.len());
-    let mut b = 0usize;
-    while b < count {
-        let block = record_at(records, first + b, blocks, size);
-        put_block(m, p, q, &table, block, buf, b);
-        b += 1;
+    if q.len() <= FEW_DIMS {
+        let mut table = [0u8; FEW_WIDE];
+        fill_by_table(m, p, q, &mut table, records, blocks, first, count, buf);
+    } else if q.len() <= MIDDLING_DIMS {
+        let mut table = [0u8; MIDDLING_WIDE];
+        fill_by_table(m, p, q, &mut table, records, blocks, first, count, buf);
+    } else {
+        let mut table = [0u8; WIDE];
+        fill_by_table(m, p, q, &mut table, records, blocks, first, count, buf);
     }
 }
 

@@ -1,8 +1,5 @@
 -- `sums::block_sums` meets its contract. Assumes nothing.
 use mathlib.Core.Path.{sym, ap, _∙_}
-use Prim.Native.Nat.{ℕ}
-use native.Mathlib.Omega.{arith}
-use lib.ListN.{length-replicate}
 use Rattle.words.proofs.RefusalLaws.{few-dims, first-bad, second-bad, none-bad, sized, unsized, accepts, refuses}
 use Rattle.words.proofs.WordsLaws.{words-ext}
 use Rattle.block.specs.Block.{blockSize}
@@ -60,26 +57,22 @@ returns-5 c =
     refuses _ 4 _ _ (code-bad _ _ _ (sym (c7 .bad-dims .ensures) ∙ c6 .if1 .left) (sized _ _ (c5 .if2 .left)) others
     (sym (c .before .above-top .ensures) ∙ c .if5 .taken))
 
-slice-aggregate-block-sums : tie.Need-slice-aggregate-block-sums
-slice-aggregate-block-sums c = search needs
-
 block-sums-requires : tie.Need-block-sums-requires
 block-sums-requires c κs =
-    let c4 = c .before .before .before .before in
+    let c3 = c .before .before .before in
+    let c4 = c3 .before in
     let c5 = c4 .before in
     let c6 = c5 .before in
-    let c7 = c6 .before in
-    let c8 = c7 .before in (
-      judged _ _ (sym (c8 .bad-dims .ensures) ∙ c7 .if1 .left) (c6 .if2 .left) (sym (c .before .before .above-top .ensures) ∙ c .before .if5 .left),
-      c4 .if3 .left ∙ c5 .size .ensures ∙ ap blockSize (sym (c6 .if2 .left)),
-      omega (arith, few-dims _ _ (sym (c8 .bad-dims .ensures) ∙ c7 .if1 .left), c6 .if2 .left, length-replicate {A = ℕ} 69952 0),
+    let c7 = c6 .before in (
+      judged _ _ (sym (c7 .bad-dims .ensures) ∙ c6 .if1 .left) (c5 .if2 .left) (sym (c .before .above-top .ensures) ∙ c .if5 .left),
+      c3 .if3 .left ∙ c4 .size .ensures ∙ ap blockSize (sym (c5 .if2 .left)),
     )
 
 slice-aggregate-put-sums : tie.Need-slice-aggregate-put-sums
 slice-aggregate-put-sums c = search needs
 
 put-sums-requires : tie.Need-put-sums-requires
-put-sums-requires c κs = (c .before .before .before .before .before .before .before .if4 .left, c .before .before .before .block-sums .ensures .sums .long)
+put-sums-requires c κs = (c .before .before .before .before .before .if4 .left, c .before .before .block-sums .ensures .sums .long)
 
 same-length : tie.Need-same-length
 same-length c = search needs
@@ -87,19 +80,19 @@ same-length c = search needs
 returns-6 : tie.Need-returns-6
 unfolding blockSumsAnswer
 returns-6 c =
-    let c6 = c .before .before .before .before .before .before in
-    let c8 = c6 .before .before in
+    let c5 = c .before .before .before .before .before in
+    let c6 = c5 .before in
+    let c7 = c6 .before in
+    let c8 = c7 .before in
     let c9 = c8 .before in
     let c10 = c9 .before in
     let c11 = c10 .before in
     let c12 = c11 .before in
     let c13 = c12 .before in
-    let c14 = c13 .before in
-    let c15 = c14 .before in
-    let others = none-bad _ _ (sized _ _ (c11 .if3 .left ∙ c12 .size .ensures)) (sized _ _ (c10 .if4 .left)) in
-    accepts _ _ _ _ (all-good _ _ _ (sym (c15 .bad-dims .ensures) ∙ c14 .if1 .left) (sized _ _ (c13 .if2 .left)) others
-    (sym (c9 .above-top .ensures) ∙ c8 .if5 .left))
-    (c .before .before .put-sums .ensures ∙ words-ext 32 _ _ (c6 .block-sums .ensures .sums .each))
+    let others = none-bad _ _ (sized _ _ (c9 .if3 .left ∙ c10 .size .ensures)) (sized _ _ (c8 .if4 .left)) in
+    accepts _ _ _ _ (all-good _ _ _ (sym (c13 .bad-dims .ensures) ∙ c12 .if1 .left) (sized _ _ (c11 .if2 .left)) others
+    (sym (c7 .above-top .ensures) ∙ c6 .if5 .left))
+    (c .before .before .put-sums .ensures ∙ words-ext 32 _ _ (c5 .block-sums .ensures .sums .each))
 
 pub block-sums-spec : {M : Type 1} → statement M
 block-sums-spec =
@@ -113,7 +106,6 @@ block-sums-spec =
     returns-4
     above-top-requires
     returns-5
-    slice-aggregate-block-sums
     block-sums-requires
     slice-aggregate-put-sums
     put-sums-requires

@@ -9,6 +9,11 @@ ghost use Rattle.words.specs.Limits.{mostDims, topCode, mostSum};
 ghost use Rattle.block.specs.Block.{laneNibble, blockGroups, blockSize};
 ghost use Rattle.sums.specs.Sums.{groupSum};
 ghost use Rattle.sums.specs.Held.{Query, Wide, Ready, Each, Sixteen, Lanes, LaneSums};
+use crate::parts::FEW_DIMS;
+use crate::parts::FEW_WIDE;
+use crate::parts::MIDDLING_DIMS;
+use crate::parts::MIDDLING_WIDE;
+use crate::parts::WIDE;
 use words::byte_at;
 use words::put_u32;
 
@@ -200,12 +205,29 @@ pub fn fill_wide(q: &[u8], t: &mut [u8])
 }
 
 // The wide table of a query, in a buffer of its size or a longer one, and the sums of a block.
-pub fn block_sums(q: &[u8], block: &[u8], t: &mut [u8]) -> [u32; 32]
+fn wide_sums(q: &[u8], block: &[u8], t: &mut [u8]) -> [u32; 32]
     requires { ⌜ Query (now q) × (length (now block) ≡ blockSize (length (now q))) × (64 * blockGroups (length (now q)) ≤ length (now t)) ⌝ }
     ensures { λ r. ⌜ LaneSums (now (q .entry)) (now (block .entry)) r ⌝ }
 {
     fill_wide(q, t);
     lane_sums(q, t, block)
+}
+
+// The sums of a block, with a table of their own.
+pub fn block_sums(q: &[u8], block: &[u8]) -> [u32; 32]
+    requires { ⌜ Query (now q) × (length (now block) ≡ blockSize (length (now q))) ⌝ }
+    ensures { λ r. ⌜ LaneSums (now (q .entry)) (now (block .entry)) r ⌝ }
+{
+    if q.len() <= FEW_DIMS {
+        let mut t = [0u8; FEW_WIDE];
+        return wide_sums(q, block, &mut t);
+    }
+    if q.len() <= MIDDLING_DIMS {
+        let mut t = [0u8; MIDDLING_WIDE];
+        return wide_sums(q, block, &mut t);
+    }
+    let mut t = [0u8; WIDE];
+    wide_sums(q, block, &mut t)
 }
 
 // Thirty-two sums, as numbers of 32 bits.

@@ -1,114 +1,64 @@
 -- `walk::fill_blocks` meets its contract. Assumes nothing.
-use mathlib.Core.Path.{_≡_, refl, sym, ap, _∙_}
-use mathlib.Core.List.{List}
-use Prim.Native.Nat.{ℕ, _+_, _-_, _*_, _≤_, zero-le}
+use Prim.Native.Nat.{ℕ}
 use native.Mathlib.Omega.{arith}
-use lib.ListN.{length, take}
-use lib.Seq.{sets}
-use lib.Ieee.{toBits, binary32}
-use Rattle.words.specs.Bytes.{wordsOf}
-use Rattle.words.proofs.WordsLaws.{words-none}
-use Rattle.estimate.specs.declared.Asked.the-variants.{LowerBound}
-use Rattle.estimate.specs.Record.{laneEstimate, laneWords}
-use Rattle.walk.specs.declared.Layout.the-variants.{Blocks}
-use Rattle.walk.specs.Walk.{recordOf, boundOf, boundWords}
-use Rattle.walk.proofs.WalkLaws.{blocks-more, lane-bound}
+use lib.ListN.{length-replicate}
 use borrow.Author.Needs.{needs}
 use Rattle.walk.proofs.fill_blocks.Statement.{statement}
 use Rattle.walk.proofs.fill_blocks.Tie as tie
 
-abbrev Inv-loop : tie.InvT-loop
-Inv-loop m p q records blocks first count buf₀ table size b₀ buf b =
-    (b ≤ count) × (length buf ≡ length buf₀)
-    × (take (128 * b) buf ≡ wordsOf (32 * b) (λ j. toBits binary32 (boundOf Blocks m (p .v) q records (32 * first + j))))
+slice-aggregate-fill-by-table : tie.Need-slice-aggregate-fill-by-table
+slice-aggregate-fill-by-table c = search needs
 
-abbrev μ-loop : tie.MeasureT-loop
-μ-loop m p q records blocks first count buf₀ table size b₀ buf b = count - b
+fill-by-table-requires : tie.Need-fill-by-table-requires
+fill-by-table-requires c κs = search needs
 
-slice-aggregate-fill-wide : tie.Need-slice-aggregate-fill-wide Inv-loop μ-loop
-slice-aggregate-fill-wide c = search needs
+slice-aggregate-fill-by-table-2 : tie.Need-slice-aggregate-fill-by-table-2
+slice-aggregate-fill-by-table-2 c = search needs
 
-fill-wide-requires : tie.Need-fill-wide-requires Inv-loop μ-loop
-fill-wide-requires c κs = search needs
+fill-by-table-requires-2 : tie.Need-fill-by-table-requires-2
+fill-by-table-requires-2 c κs =
+    let a = c .before .before .before .before .before .before .before .pre in
+    (a, omega (arith, a .0 .few, length-replicate {A = ℕ} 16384 0))
 
-size-requires : tie.Need-size-requires Inv-loop μ-loop
-size-requires c κs = c .before .before .before .before .before .before .pre .0 .few
+slice-aggregate-fill-by-table-3 : tie.Need-slice-aggregate-fill-by-table-3
+slice-aggregate-fill-by-table-3 c = search needs
 
-loop-holds : tie.Need-loop-holds Inv-loop μ-loop
-loop-holds c = (zero-le, refl, words-none (c .before .before .before .before .before .before .before .args .buf .now) _)
+fill-by-table-requires-3 : tie.Need-fill-by-table-requires-3
+fill-by-table-requires-3 c κs =
+    let a = c .before .before .before .before .before .before .before .pre in
+    (a, omega (arith, a .0 .few, length-replicate {A = ℕ} 69952 0))
 
-add-record-at : tie.Need-add-record-at Inv-loop μ-loop
-add-record-at c =
-    let e9 = c .before .before .before .before .before .before .before .before .before in
-    omega (arith, e9 .pre .2 .inside, e9 .good)
+same-length : tie.Need-same-length
+same-length c = search needs
 
-record-at-requires : tie.Need-record-at-requires Inv-loop μ-loop
-record-at-requires c κs =
-    let e2 = c .before .before in
-    let e9 = e2 .before .before .before .before .before .before .before in
-    (omega (arith, e9 .pre .2 .inside), e9 .pre .2 .sized ∙ ap (λ (x : ℕ). e9 .args .blocks * x) (sym (e2 .size .ensures)))
+returns : tie.Need-returns
+returns c = search needs
 
-slice-aggregate-put-block : tie.Need-slice-aggregate-put-block Inv-loop μ-loop
-slice-aggregate-put-block c = search needs
+same-length-2 : tie.Need-same-length-2
+same-length-2 c = search needs
 
-put-block-requires : tie.Need-put-block-requires Inv-loop μ-loop
-put-block-requires c κs =
-    let e2 = c .before .before in
-    let e5 = e2 .before .before .before in
-    let e7 = e5 .before .before in
-    let e12 = e7 .before .before .before .before .before in
-    let a = e12 .pre in
-    (a .1, record { query = a .0; wide = e7 .fill-wide .ensures; sized = e2 .record-at .ensures .1 ∙ e5 .size .ensures }, omega (arith, a .3))
+returns-2 : tie.Need-returns-2
+returns-2 c = search needs
 
-add-b : tie.Need-add-b Inv-loop μ-loop
-add-b c = omega arith
+same-length-3 : tie.Need-same-length-3
+same-length-3 c = search needs
 
-loop-less : tie.Need-loop-less Inv-loop μ-loop
-loop-less c = omega arith
-
-loop-again : tie.Need-loop-again Inv-loop μ-loop
-unfolding laneWords
-loop-again c =
-    let e2 = c .before .before in
-    let e5 = e2 .before .before .before in
-    let e7 = e5 .before .before in
-    let e8 = e7 .before in
-    let e15 = e8 .before .before .before .before .before .before .before in
-    let l = e7 .loop in
-    let a = e15 .args in
-    let lane : List ℕ → ℕ → ℕ = λ x k. toBits binary32 (laneEstimate LowerBound (a .m) (a .p .v) (a .q .now) x k) in
-    let block = e5 .record-at .ensures .0 ∙ ap (λ (x : ℕ). recordOf x (a .records .now) (a .first + l .b)) (e8 .size .ensures) in
-    let e = e2 .put-block .ensures ∙ ap (λ (x : List ℕ). sets (l .buf) (128 * l .b) (wordsOf 32 (lane x))) block in
-    let same = lane-bound (a .m) (a .p .v) (a .q .now) (a .records .now) (a .first) (l .b) in
-    let room : 128 * l .b + 128 ≤ length (l .buf) = omega (arith, e15 .pre .3) in
-    let next = blocks-more (l .buf) _ (l .b) _ _ room e (λ k h. ap (toBits binary32) (same k h)) (l .inv .2) in
-    (omega arith, next .1 ∙ l .inv .1, next .0)
-
-same-length : tie.Need-same-length Inv-loop μ-loop
-same-length c = c .before .loop .inv .1
-
-returns : tie.Need-returns Inv-loop μ-loop
-unfolding boundWords
-returns c =
-    let e9 = c .before .before .before .before .before .before .before .before .before in
-    let e : c .before .loop .b ≡ e9 .args .count = omega arith in rw (← e) (c .before .loop .inv .2)
+returns-3 : tie.Need-returns-3
+returns-3 c = search needs
 
 pub fill-blocks-spec : {M : Type 1} → statement M
 fill-blocks-spec =
     tie.close
     (tie.spec
-    Inv-loop
-    μ-loop
-    slice-aggregate-fill-wide
-    fill-wide-requires
-    size-requires
-    loop-holds
-    add-record-at
-    record-at-requires
-    slice-aggregate-put-block
-    put-block-requires
-    add-b
-    loop-less
-    loop-again
+    slice-aggregate-fill-by-table
+    fill-by-table-requires
+    slice-aggregate-fill-by-table-2
+    fill-by-table-requires-2
+    slice-aggregate-fill-by-table-3
+    fill-by-table-requires-3
     same-length
-    returns)
+    returns
+    same-length-2
+    returns-2
+    same-length-3
+    returns-3)

@@ -23,8 +23,8 @@ loop-holds c = (omega arith, omega arith, c .before .before .pre .3, below-none 
 add-loop : tie.Need-add-loop Inv-loop μ-loop
 add-loop c = omega (arith, per-le (c .before .before .before .args .bits) (c .before .before .before .pre .0))
 
-join-codes-requires : tie.Need-join-codes-requires Inv-loop μ-loop
-join-codes-requires c κs = let p = c .before .before .before .before .pre in (p .0, omega arith, c .loop-test .taken, p .4)
+join-whole-requires : tie.Need-join-whole-requires Inv-loop μ-loop
+join-whole-requires c κs = let p = c .before .before .before .before .pre in (p .0, p .1, c .loop-test .taken, p .4)
 
 slice-write-out : tie.Need-slice-write-out Inv-loop μ-loop
 slice-write-out c =
@@ -58,16 +58,16 @@ loop-again c =
       next-place (a .bits) (l .k) (l .at) (a .per) (l .inv .0) (p .1),
       c .before .loop-test .taken,
       simp length-set (l .inv .2),
-      filled-more (packedByte (a .bits) (a .codes .now)) (l .out) (l .k) (c .join-codes .result)
+      filled-more (packedByte (a .bits) (a .codes .now)) (l .out) (l .k) (c .join-whole .result)
           (omega (arith, room (a .bits) (l .k) (l .at) (length (a .codes .now)) (p .0) (l .inv .0) (omega (arith, per-pos (a .bits) (p .0)))))
-          (l .inv .3) (c .join-codes .ensures ∙ full-byte (a .bits) (l .k) (l .at) (a .per) (a .codes .now) (l .inv .0) (p .1)),
+          (l .inv .3) (c .join-whole .ensures ∙ full-byte (a .bits) (l .k) (l .at) (a .per) (a .codes .now) (l .inv .0) (p .1)),
     )
 
 sub-join-codes : tie.Need-sub-join-codes Inv-loop μ-loop
 sub-join-codes c = omega arith
 
-join-codes-requires-2 : tie.Need-join-codes-requires-2 Inv-loop μ-loop
-join-codes-requires-2 c κs = let p = c .before .before .before .before .before .pre in (p .0, omega arith, omega arith, p .4)
+join-codes-requires : tie.Need-join-codes-requires Inv-loop μ-loop
+join-codes-requires c κs = let p = c .before .before .before .before .before .pre in (p .0, omega arith, omega arith, p .4)
 
 slice-write-out-2 : tie.Need-slice-write-out-2 Inv-loop μ-loop
 slice-write-out-2 c =
@@ -90,8 +90,8 @@ returns c =
     one-left (a .bits) (l .k) (l .at) (length (a .codes .now)) (p .0) (l .inv .0) (c .before .if1 .taken) (omega arith) in
     filled (packedSize (a .bits) (length (a .codes .now))) (packedByte (a .bits) (a .codes .now)) _ (simp length-set (l .inv .2))
     (rw e
-    (filled-more (packedByte (a .bits) (a .codes .now)) (l .out) (l .k) (c .join-codes2 .result) (omega arith) (l .inv .3)
-    (c .join-codes2 .ensures ∙ last-byte (a .bits) (l .k) (l .at) (length (a .codes .now) - l .at) (a .codes .now) (l .inv .0) (omega arith) (omega arith))))
+    (filled-more (packedByte (a .bits) (a .codes .now)) (l .out) (l .k) (c .join-codes .result) (omega arith) (l .inv .3)
+    (c .join-codes .ensures ∙ last-byte (a .bits) (l .k) (l .at) (length (a .codes .now) - l .at) (a .codes .now) (l .inv .0) (omega arith) (omega arith))))
 
 same-length-2 : tie.Need-same-length-2 Inv-loop μ-loop
 same-length-2 c = omega arith
@@ -112,14 +112,14 @@ pack-bits-spec =
     μ-loop
     loop-holds
     add-loop
-    join-codes-requires
+    join-whole-requires
     slice-write-out
     add-k
     add-at
     loop-less
     loop-again
     sub-join-codes
-    join-codes-requires-2
+    join-codes-requires
     slice-write-out-2
     same-length
     returns

@@ -7,9 +7,9 @@ use mathlib.Core.List.{List, _++_}
 use lib.ListN.{length, getD, take, drop}
 use lib.Ieee.{isNan}
 use Rattle.words.specs.Bytes.{f32At}
+use Rattle.words.specs.Lists.{anyAbove}
 use Rattle.words.specs.declared.Metric.{Metric}
 use Rattle.digits.specs.Digits.{isWidth, levels, top, digitAt, packed}
-use Rattle.digits.specs.Calls.{aboveTop}
 use Rattle.scalar.specs.Table.{tableBytes, entryAt}
 use Rattle.code.specs.Code.{codeSize, codeBit, clearedCode}
 use Rattle.block.specs.Block.{blockGroups, laneNibble, laneBit, laneCode, codeAt, clearedBlock, lanesOf}
@@ -32,7 +32,7 @@ Bytes s = (i : ℕ) → getD s i 0 < 256
 
 pub record Demand2 : Type 0 where
   -- digits: reading digit i of what was packed gives code i, and 0 past the last
-  pub digits : (w : ℕ) (codes : List ℕ) → isWidth w ≡ true → aboveTop (top w) codes ≡ false → (i : ℕ) → digitAt w (packed w codes) i ≡ getD codes i 0
+  pub digits : (w : ℕ) (codes : List ℕ) → isWidth w ≡ true → anyAbove (top w) codes ≡ false → (i : ℕ) → digitAt w (packed w codes) i ≡ getD codes i 0
   -- a scalar table: entry j of dimension i reads back as the entry of the definition
   pub entries : (m : Metric) (w dims : ℕ) (vector lo hi : List ℕ) (i j : ℕ) → i < dims → j < levels w
       → f32At (tableBytes m w dims vector lo hi) (i * levels w + j) ≡ entryAt m w vector lo hi i j

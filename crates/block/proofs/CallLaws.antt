@@ -1,4 +1,4 @@
--- Laws of specs/Calls: one for each return of a call. Those of a size are crate code's. Assumes nothing.
+-- Laws of specs/Calls: one for each return of a call. Assumes nothing.
 use Prim.Native.Nat.{ℕ, _*_, _<_, _≤_}
 use mathlib.Core.Bool.{true, false, _||_}
 use mathlib.Core.List.{List}

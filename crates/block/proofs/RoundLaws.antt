@@ -10,9 +10,9 @@ use borrow.Author.Tests.{lt-ltb, le-ltb}
 use Rattle.words.specs.Digits.{bit, kept}
 use Rattle.words.specs.Lists.{joined}
 use Rattle.words.proofs.ListLaws.{joined-at, tabulate-at, tabulate-ext, filled}
-use Rattle.words.proofs.DigitLaws.{lt-or-ge, kept-in, kept-lt, kept-ext, bits-lt, join-ext, bit-join}
+use Rattle.words.proofs.DigitLaws.{join-whole, lt-or-ge, kept-in, kept-lt, kept-ext, bits-lt, join-ext, bit-join}
 use Rattle.code.specs.Code.{codeSize, codeBit, codeOf, clearedCode}
-use Rattle.code.proofs.CodeLaws.{code-bit-lt, join-whole, code-ext, length-code, factor-of-code, bit-of-code, made-cleared}
+use Rattle.code.proofs.CodeLaws.{code-bit-lt, code-ext, length-code, factor-of-code, bit-of-code, made-cleared}
 use Rattle.block.specs.Block.{blockGroups, blockSize, laneFactor, laneNibble, laneBit, laneCode, groupNibble, groupByte, blockByte, blockOf}
 use Rattle.block.specs.Block.{codeAt, packed, clearedBlock, lanesOf}
 use Rattle.block.proofs.LaneLaws.{lane-bit-lt, lane-bit-at, nibble-lt, nibble-low, nibble-high}

@@ -7,7 +7,7 @@ use words::BAD_LENGTH;
 use words::MOST_DIMS;
 use words::OUT_OF_RANGE;
 use words::bad_dims;
-use words::put_number;
+use words::put_size;
 
 pub mod parts;
 
@@ -18,12 +18,7 @@ pub fn block_size(dims: u32, out: &mut [u8]) -> u32
     if bad_dims(dims, MOST_DIMS) {
         return BAD_DIMS;
     }
-    if out.len() != 4 {
-        return BAD_LENGTH;
-    }
-    let size = parts::size(dims as usize);
-    put_number(out, size as u32);
-    ACCEPTED
+    put_size(out, parts::size(dims as usize))
 }
 
 // The block of 32 codes laid end to end.

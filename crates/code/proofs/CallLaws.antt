@@ -8,24 +8,9 @@ use borrow.Author.Tests.{le-leb, lt-leb}
 use Rattle.words.specs.Bytes.{bytesOf}
 use Rattle.words.specs.Floats.{missing}
 use Rattle.words.specs.Limits.{mostDims}
-use Rattle.words.specs.Refusals.{after, answer, badDims, badLength, sizeNumber, sizeAnswer}
+use Rattle.words.specs.Refusals.{after, answer, badDims, badLength}
 use Rattle.code.specs.Code.{codeSize, codeBit, codeOf}
 use Rattle.code.specs.Calls.{signClear, encodeNumber, encodeAnswer, bitNumber, bitAnswer}
-
--- ---- a size, of a single code or of a block
-
-module _ (dims size : ℕ) (out : List ℕ) where
-  pub size-dims : badDims mostDims dims ≡ true → (1, out) ≡ sizeAnswer dims size out
-  unfolding sizeAnswer sizeNumber answer after
-  size-dims h = rw h refl
-
-  pub size-length : badDims mostDims dims ≡ false → badLength out 4 ≡ true → (3, out) ≡ sizeAnswer dims size out
-  unfolding sizeAnswer sizeNumber answer after
-  size-length h l = rw (h, l) refl
-
-  pub size-accepted : badDims mostDims dims ≡ false → badLength out 4 ≡ false → (0, bytesOf 4 size) ≡ sizeAnswer dims size out
-  unfolding sizeAnswer sizeNumber answer after
-  size-accepted h l = rw (h, l) refl
 
 -- ---- encode
 

@@ -1,18 +1,17 @@
 -- Laws of the single code's layout. Assumes nothing.
 use mathlib.Core.Path.{_≡_, sym, ap, ap₂, _∙_}
-use Prim.Native.Nat.{ℕ, zero, suc, _+_, _-_, _*_, _/_, _%_, _^_, _<_, _≤_}
+use Prim.Native.Nat.{ℕ, zero, suc, _+_, _-_, _*_, _/_, _%_, _<_, _≤_}
 use mathlib.Core.List.{List}
 use native.Mathlib.Omega.{arith}
-use native.Mathlib.Nat.{not-suc-le-zero, le-of-suc-le-suc, add-zero, zero-add, min-eq-left, mod-eq-of-lt, one-mul, lt-of-lt-of-le}
+use native.Mathlib.Nat.{not-suc-le-zero, le-of-suc-le-suc, add-zero, zero-add}
 use mathlib.Core.Logic.{⊎-elim}
 use lib.ListN.{length, getD, drop}
 use lib.Seq.{getD-drop}
-use lib.Pow.{shl-exact, pow-mono}
 use borrow.Author.Tests.{lt-ltb, le-ltb}
 use Rattle.words.specs.Bytes.{numAt}
 use Rattle.words.specs.Digits.{bit, join, kept}
 use Rattle.words.proofs.ListLaws.{length-tabulate, tabulate-at, tabulate-ext, filled}
-use Rattle.words.proofs.DigitLaws.{bit-lt, bit-low, bit-high, bit-join, lt-or-ge, kept-in, kept-out, kept-ext, kept-lt, join-ext, join-kept, join-more, bits-lt}
+use Rattle.words.proofs.DigitLaws.{bit-lt, bit-low, bit-high, bit-join, lt-or-ge, kept-in, kept-out, kept-ext, kept-lt, join-ext, join-whole}
 use Rattle.code.specs.Calls.{signClear}
 use Rattle.code.specs.Code.{codeWords, codeSize, codeWord, codeBit, wordsBit, codeByte, codeOf, clearedCode}
 
@@ -69,22 +68,6 @@ byte-bit code x j l =
     let at : (8 * x + j) / 8 ≡ x = omega arith in
     let digit : (8 * x + j) % 8 ≡ j = omega arith in
     ap₂ (λ (a b : ℕ). bit (getD code (16 + a) 0) b) at digit
-
--- n digits that are those of y below 2 ^ n, where the digits from dimension most on are 0, are y
-pub join-whole : (n most at y : ℕ) (b : ℕ → ℕ) → y < 2 ^ n → ((j : ℕ) → j < n → b (at + j) ≡ bit y j) → ((j : ℕ) → j < n → most ≤ at + j → b (at + j) ≡ 0)
-    → join 1 n (λ j. kept most b (at + j)) ≡ y
-join-whole n most at y b small digit pad =
-    join-ext 1 n (λ j. kept most b (at + j)) (λ j. kept (at + n) b (at + j)) (λ j l. ⊎-elim (inside j l) (outside j l) (lt-or-ge (at + j) most))
-    ∙ join-kept n (at + n) at y b digit ∙ ap (λ (k : ℕ). y % 2 ^ k) (min-eq-left (omega arith)) ∙ mod-eq-of-lt small
-  where
-    whole : (j : ℕ) → j < n → kept (at + n) b (at + j) ≡ b (at + j)
-    whole j l = kept-in (at + n) b (at + j) (omega arith)
-
-    inside : (j : ℕ) → j < n → at + j < most → kept most b (at + j) ≡ kept (at + n) b (at + j)
-    inside j l h = kept-in most b (at + j) h ∙ sym (whole j l)
-
-    outside : (j : ℕ) → j < n → most ≤ at + j → kept most b (at + j) ≡ kept (at + n) b (at + j)
-    outside j l h = kept-out most b (at + j) h ∙ sym (whole j l ∙ pad j l h)
 
 -- ---- a code made of factor bytes and bits
 
@@ -158,18 +141,6 @@ code-cleared dims code size byte pad =
         ∙ join-whole 8 dims (8 * (i - 16)) (getD code i 0) (codeBit code) (byte i)
         (λ j lj. byte-bit code (i - 16) j lj ∙ ap (λ (x : ℕ). bit (getD code x 0) j) (omega arith))
         (λ j lj p. pad (8 * (i - 16) + j) p (omega arith)))
-
--- ---- a byte put together by a loop: one digit more, shifted to its place
-
-pub digit-more : (f : ℕ → ℕ) → ((i : ℕ) → f i < 2) → (i byte x : ℕ) → i < 8 → byte ≡ join 1 i f → x ≡ f i
-    → (byte + x * 2 ^ i % 2 ^ 8 ≡ join 1 (i + 1) f) × (byte + x * 2 ^ i % 2 ^ 8 < 2 ^ 8)
-digit-more f two i byte x l e g = (sum, rw sum (lt-of-lt-of-le (bits-lt (i + 1) f two) (pow-mono {j = 8} (omega arith))))
-  where
-    place : x * 2 ^ i % 2 ^ 8 ≡ f i * 2 ^ (1 * i)
-    place = ap (λ (x : ℕ). x * 2 ^ i % 2 ^ 8) g ∙ shl-exact 1 i 8 (two i) (omega arith) ∙ ap (λ (k : ℕ). f i * 2 ^ k) (sym (one-mul i))
-
-    sum : byte + x * 2 ^ i % 2 ^ 8 ≡ join 1 (i + 1) f
-    sum = ap₂ (λ (x y : ℕ). x + y) e place ∙ sym (join-more 1 i f)
 
 pub sign-lt : (v : List ℕ) (d : ℕ) → signClear v d < 2
 unfolding signClear

@@ -10,6 +10,7 @@ use words::OUT_OF_RANGE;
 use words::any_missing;
 use words::bad_dims;
 use words::put_number;
+use words::put_size;
 
 pub mod parts;
 
@@ -20,12 +21,7 @@ pub fn code_size(dims: u32, out: &mut [u8]) -> u32
     if bad_dims(dims, MOST_DIMS) {
         return BAD_DIMS;
     }
-    if out.len() != 4 {
-        return BAD_LENGTH;
-    }
-    let size = parts::size(dims as usize);
-    put_number(out, size as u32);
-    ACCEPTED
+    put_size(out, parts::size(dims as usize))
 }
 
 // The four factors, bit for bit, and the signs of a vector of dims floats.

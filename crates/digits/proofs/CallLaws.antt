@@ -1,33 +1,39 @@
--- Laws of specs/Answers: one for each return of a call, and what the tests tell. Assumes nothing.
-use Prim.Native.Nat.{ℕ, _+_, _<_, _≤_, max}
-use mathlib.Core.Bool.{Bool, true, false, _||_}
+-- Laws of specs/Calls: what the first two tests of a call tell, and one law for each return. Assumes nothing.
+use Prim.Native.Nat.{ℕ, _<_, _≤_}
+use mathlib.Core.Bool.{Bool, true, false, _||_, cond}
 use mathlib.Core.List.{List}
-use mathlib.Core.Path.{_≡_, refl, sym}
-use native.Mathlib.Omega.{arith}
-use native.Mathlib.Numerals.{add-one}
-use lib.Dec.{ltb}
-use borrow.Author.Tests.{lt-ltb, le-ltb, ltb-true, ltb-false, le-leb, lt-leb}
+use mathlib.Core.Path.{_≡_, refl, sym, ap, _∙_}
+use borrow.Author.Tests.{le-leb, lt-leb}
 use Rattle.words.specs.Bytes.{bytesOf}
-use Rattle.words.specs.Lists.{anyBelow}
 use Rattle.words.specs.Limits.{mostScalarDims}
+use Rattle.words.specs.Lists.{anyAbove}
 use Rattle.words.specs.Refusals.{after, answer, badDims, badLength}
-use Rattle.digits.specs.Digits.{isWidth, top, packedSize, digitAt, packed}
-use Rattle.digits.specs.Calls.{aboveTop, sizeNumber, sizeAnswer, packNumber, packAnswer, readNumber, readAnswer}
+use Rattle.words.proofs.RefusalLaws.{few-dims}
+use Rattle.digits.specs.declared.Width.{Width}
+use Rattle.digits.specs.declared.Found.{Found}
+use Rattle.digits.specs.declared.Found.the-variants as found
+use Rattle.digits.specs.Digits.{bitsOf, isWidth, top, packedSize, digitAt, packed}
+use Rattle.digits.specs.Found.{foundBits}
+use Rattle.digits.specs.Calls.{sizeNumber, sizeAnswer, packNumber, packAnswer, readNumber, readAnswer}
 
--- ---- the tests
+-- ---- the dims and the width of a call, here and in the scalar crate
 
--- a turn of the loop that looks for the largest code
-max-above : (t a b : ℕ) → ltb t (max a b) ≡ (ltb t a || ltb t b)
-max-above t a b = go (ltb t a) (ltb t b) refl refl
-  where
-    go : (x y : Bool) → ltb t a ≡ x → ltb t b ≡ y → ltb t (max a b) ≡ (x || y)
-    go true y e f = let l : t < a = ltb-true t a e in lt-ltb t (max a b) (omega arith)
-    go false true e f = let l : t < b = ltb-true t b f in lt-ltb t (max a b) (omega arith)
-    go false false e f = let k : a ≤ t = ltb-false t a e in let l : b ≤ t = ltb-false t b f in le-ltb t (max a b) (omega arith)
+pub record Judged (dims bits : ℕ) (w : Width) : Type 0 where
+  pub dims-fine : badDims mostScalarDims dims ≡ false
+  pub few : dims ≤ mostScalarDims
+  pub width-fine : isWidth bits ≡ true
+  pub bits-are : bitsOf w ≡ bits
 
-pub above-more : (t i m x : ℕ) (p : ℕ → ℕ) → ltb t m ≡ anyBelow i (λ i. ltb t (p i)) → x ≡ p i → ltb t (max m x) ≡ anyBelow (i + 1) (λ i. ltb t (p i))
-unfolding anyBelow
-above-more t i m x p h e = rw (add-one i, sym h, e) (max-above t m (p i))
+pub judge : (dims bits : ℕ) (b : Bool) (r : Found) (w : Width) → b ≡ badDims mostScalarDims dims → b ≡ false → foundBits r bits → r ≡ found.Width w
+    → Judged dims bits w
+judge dims bits b r w e f h g =
+    let d = sym e ∙ f in
+    let found = rw g at h in
+    record { dims-fine = d; few = few-dims mostScalarDims dims d; width-fine = found .0; bits-are = found .1 }
+
+-- a size in the bits of the width is one in the bits
+pub size-of : {dims bits : ℕ} {w : Width} → Judged dims bits w → packedSize (bitsOf w) dims ≡ packedSize bits dims
+size-of {dims} j = ap (λ (b : ℕ). packedSize b dims) (j .bits-are)
 
 -- ---- the returns
 
@@ -40,14 +46,10 @@ module _ (dims bits : ℕ) (out : List ℕ) where
   unfolding sizeAnswer sizeNumber answer after
   size-width h w = rw (h, w) refl
 
-  pub size-length : badDims mostScalarDims dims ≡ false → isWidth bits ≡ true → badLength out 4 ≡ true → (3, out) ≡ sizeAnswer dims bits out
-  unfolding sizeAnswer sizeNumber answer after
-  size-length h w l = rw (h, w, l) refl
-
-  pub size-accepted : badDims mostScalarDims dims ≡ false → isWidth bits ≡ true → badLength out 4 ≡ false →
-      (0, bytesOf 4 (packedSize bits dims)) ≡ sizeAnswer dims bits out
-  unfolding sizeAnswer sizeNumber answer after
-  size-accepted h w l = rw (h, w, l) refl
+  pub size-judged : {w : Width} (size : ℕ) → Judged dims bits w → size ≡ packedSize bits dims
+      → answer (cond (badLength out 4) 3 0) out (bytesOf 4 size) ≡ sizeAnswer dims bits out
+  unfolding sizeAnswer sizeNumber
+  size-judged size j e = rw (j .dims-fine, j .width-fine, e) refl
 
 module _ (dims bits : ℕ) (codes out : List ℕ) where
   pub pack-dims : badDims mostScalarDims dims ≡ true → (1, out) ≡ packAnswer dims bits codes out
@@ -58,22 +60,20 @@ module _ (dims bits : ℕ) (codes out : List ℕ) where
   unfolding packAnswer packNumber answer after
   pack-width h w = rw (h, w) refl
 
-  pub pack-length : badDims mostScalarDims dims ≡ false → isWidth bits ≡ true → (badLength codes dims || badLength out (packedSize bits dims)) ≡ true →
-      (3, out) ≡ packAnswer dims bits codes out
-  unfolding packAnswer packNumber answer after
-  pack-length h w l = rw (h, w, l) refl
+  module _ {w : Width} (j : Judged dims bits w) where
+    pub pack-length : (badLength codes dims || badLength out (packedSize bits dims)) ≡ true → (3, out) ≡ packAnswer dims bits codes out
+    unfolding packAnswer packNumber answer after
+    pack-length l = rw (j .dims-fine, j .width-fine, l) refl
 
-  pub pack-value : badDims mostScalarDims dims ≡ false → isWidth bits ≡ true → (badLength codes dims || badLength out (packedSize bits dims)) ≡ false
-      → aboveTop (top bits) codes ≡ true
-      → (5, out) ≡ packAnswer dims bits codes out
-  unfolding packAnswer packNumber answer after
-  pack-value h w l a = rw (h, w, l, a) refl
+    pub pack-value : (badLength codes dims || badLength out (packedSize bits dims)) ≡ false → anyAbove (top (bitsOf w)) codes ≡ true
+        → (5, out) ≡ packAnswer dims bits codes out
+    unfolding packAnswer packNumber answer after
+    pack-value l a = rw (j .dims-fine, j .width-fine, l, rw (j .bits-are) at a) refl
 
-  pub pack-accepted : badDims mostScalarDims dims ≡ false → isWidth bits ≡ true → (badLength codes dims || badLength out (packedSize bits dims)) ≡ false
-      → aboveTop (top bits) codes ≡ false
-      → (0, packed bits codes) ≡ packAnswer dims bits codes out
-  unfolding packAnswer packNumber answer after
-  pack-accepted h w l a = rw (h, w, l, a) refl
+    pub pack-accepted : (now : List ℕ) → (badLength codes dims || badLength out (packedSize bits dims)) ≡ false
+        → anyAbove (top (bitsOf w)) codes ≡ false → now ≡ packed (bitsOf w) codes → (0, now) ≡ packAnswer dims bits codes out
+    unfolding packAnswer packNumber answer after
+    pack-accepted now l a e = rw (j .dims-fine, j .width-fine, l, rw (j .bits-are) at a, rw (j .bits-are) at e) refl
 
 module _ (dims bits : ℕ) (s : List ℕ) (i : ℕ) (out : List ℕ) where
   pub read-dims : badDims mostScalarDims dims ≡ true → (1, out) ≡ readAnswer dims bits s i out
@@ -84,17 +84,16 @@ module _ (dims bits : ℕ) (s : List ℕ) (i : ℕ) (out : List ℕ) where
   unfolding readAnswer readNumber answer after
   read-width h w = rw (h, w) refl
 
-  pub read-length : badDims mostScalarDims dims ≡ false → isWidth bits ≡ true → (badLength s (packedSize bits dims) || badLength out 4) ≡ true →
-      (3, out) ≡ readAnswer dims bits s i out
-  unfolding readAnswer readNumber answer after
-  read-length h w l = rw (h, w, l) refl
+  module _ {w : Width} (j : Judged dims bits w) where
+    pub read-length : (badLength s (packedSize bits dims) || badLength out 4) ≡ true → (3, out) ≡ readAnswer dims bits s i out
+    unfolding readAnswer readNumber answer after
+    read-length l = rw (j .dims-fine, j .width-fine, l) refl
 
-  pub read-range : badDims mostScalarDims dims ≡ false → isWidth bits ≡ true → (badLength s (packedSize bits dims) || badLength out 4) ≡ false → dims ≤ i
-      → (6, out) ≡ readAnswer dims bits s i out
-  unfolding readAnswer readNumber answer after
-  read-range h w l a = rw (h, w, l, le-leb dims i a) refl
+    pub read-range : (badLength s (packedSize bits dims) || badLength out 4) ≡ false → dims ≤ i → (6, out) ≡ readAnswer dims bits s i out
+    unfolding readAnswer readNumber answer after
+    read-range l a = rw (j .dims-fine, j .width-fine, l, le-leb dims i a) refl
 
-  pub read-accepted : badDims mostScalarDims dims ≡ false → isWidth bits ≡ true → (badLength s (packedSize bits dims) || badLength out 4) ≡ false → i < dims
-      → (0, bytesOf 4 (digitAt bits s i)) ≡ readAnswer dims bits s i out
-  unfolding readAnswer readNumber answer after
-  read-accepted h w l a = rw (h, w, l, lt-leb dims i a) refl
+    pub read-accepted : (now : List ℕ) → (badLength s (packedSize bits dims) || badLength out 4) ≡ false → i < dims
+        → now ≡ bytesOf 4 (digitAt (bitsOf w) s i) → (0, now) ≡ readAnswer dims bits s i out
+    unfolding readAnswer readNumber answer after
+    read-accepted now l a e = rw (j .dims-fine, j .width-fine, l, lt-leb dims i a, rw (j .bits-are) at e) refl

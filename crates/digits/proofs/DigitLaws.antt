@@ -1,23 +1,22 @@
 -- Laws of specs/Digit, each proved once over the width: codes joined in a number, read back out of it, and out of the
 -- packed bytes. Assumes nothing.
-use Prim.Native.Nat.{ℕ, suc, _+_, _-_, _*_, _/_, _%_, _^_, _<_, _≤_}
+use Prim.Native.Nat.{ℕ, _+_, _*_, _/_, _%_, _^_, _<_, _≤_}
 use mathlib.Core.Bool.{Bool, true, false, _||_}
 use mathlib.Core.List.{List}
 use mathlib.Core.Path.{_≡_, refl, sym, ap, _∙_, subst}
 use native.Mathlib.Omega.{arith}
-use native.Mathlib.Numerals.{add-one}
-use native.Mathlib.Nat.{lt-of-lt-of-le, mod-eq-of-lt, div-add-mod', mod-lt, zero-div, zero-mod}
+use native.Mathlib.Nat.{div-add-mod', mod-lt, zero-div, zero-mod}
 use lib.Dec.{T, eqb, ltb}
-use lib.Pow.{pow-pos, pow-mono}
+use lib.Pow.{pow-pos}
 use lib.ListN.{getD, length, List·getD-eq-default}
 use borrow.Author.Tests.{eqb-true, ltb-true, ltb-false}
 use Rattle.words.specs.Digits.{join}
-use Rattle.words.proofs.DigitLaws.{join-more, join-pad, join-lt, join-digit}
-use Rattle.words.proofs.ListLaws.{none-at, length-tabulate, tabulate-at}
+use Rattle.words.specs.Lists.{anyAbove}
+use Rattle.words.proofs.DigitLaws.{digit-more, join-pad, join-digit}
+use Rattle.words.proofs.ListLaws.{none-above, length-tabulate, tabulate-at}
 use Rattle.digits.specs.declared.Width.{Width}
 use Rattle.digits.specs.declared.Width.the-variants.{One, Two, Four, Eight}
 use Rattle.digits.specs.Digits.{bitsOf, isWidth, levels, top, perByte, packedSize, digitAt, packedByte, packed}
-use Rattle.digits.specs.Calls.{aboveTop}
 
 -- ---- the four widths
 
@@ -55,14 +54,12 @@ digit-from w s i h =
 
 -- ---- codes in one byte
 
--- a turn of the loop that joins codes in a byte: nothing is shifted out, and the sum fits
-pub join-turn : (w j : ℕ) (f : ℕ → ℕ) → isWidth w ≡ true → ((j : ℕ) → f j < 2 ^ w) → j < perByte w
-    → (join w j f + f j * 2 ^ (w * j) % 256 ≡ join w (j + 1) f) × (join w (j + 1) f < 256)
-join-turn w j f h small l =
-    let n : w * suc j ≤ 8 = by-width (λ w. j < perByte w → w * suc j ≤ 8) (λ k. omega arith) (λ k. omega arith) (λ k. omega arith) (λ k. omega arith) w h l in
-    let all : join w (j + 1) f < 256 = rw (add-one j) (lt-of-lt-of-le (join-lt w (suc j) f small) (pow-mono n)) in
-    let this : f j * 2 ^ (w * j) < 256 = omega (arith, join-more w j f) in
-    (rw (mod-eq-of-lt this) (sym (join-more w j f)), all)
+-- a turn of the loop that joins codes in a byte
+pub join-turn : (w j p x y : ℕ) (f : ℕ → ℕ) → isWidth w ≡ true → ((j : ℕ) → f j < 2 ^ w) → j < perByte w → p ≡ w * j → x ≡ join w j f → y ≡ f j
+    → (x + y * 2 ^ p % 256 ≡ join w (j + 1) f) × (x + y * 2 ^ p % 256 < 256)
+join-turn w j p x y f h small l =
+    digit-more w 8 j p x y f small
+    (by-width (λ w. j < perByte w → w * j + w ≤ 8) (λ k. omega arith) (λ k. omega arith) (λ k. omega arith) (λ k. omega arith) w h l)
 
 pub place-lt : (w j : ℕ) → isWidth w ≡ true → j < perByte w → w * j < 8
 place-lt w j h l = by-width (λ w. j < perByte w → w * j < 8) (λ k. omega arith) (λ k. omega arith) (λ k. omega arith) (λ k. omega arith) w h l
@@ -70,15 +67,8 @@ place-lt w j h l = by-width (λ w. j < perByte w → w * j < 8) (λ k. omega ari
 -- ---- packed codes
 
 -- where no code is above the top one, each is below the number of levels, the zeros past the last one too
-pub small : (w : ℕ) (codes : List ℕ) → aboveTop (top w) codes ≡ false → (i : ℕ) → getD codes i 0 < 2 ^ w
-unfolding aboveTop
-small w codes h i = go (ltb i (length codes)) refl
-  where
-    go : (b : Bool) → ltb i (length codes) ≡ b → getD codes i 0 < 2 ^ w
-    go true e =
-        let l : getD codes i 0 ≤ 2 ^ w - 1 = ltb-false _ _ (none-at (λ i. ltb (top w) (getD codes i 0)) (length codes) h i (ltb-true _ _ e)) in
-        omega (arith, pow-pos w)
-    go false e = rw (List·getD-eq-default codes 0 (ltb-false _ _ e)) (pow-pos w)
+pub small : (w : ℕ) (codes : List ℕ) → anyAbove (top w) codes ≡ false → (i : ℕ) → getD codes i 0 < 2 ^ w
+small w codes h i = omega (arith, none-above (top w) codes h i, pow-pos w)
 
 pub packed-at : (w : ℕ) (codes : List ℕ) (k : ℕ) → k < packedSize w (length codes) → getD (packed w codes) k 0 ≡ packedByte w codes k
 unfolding packed
@@ -102,7 +92,7 @@ next-place w k at per e f = rw (e, f) (go k (perByte w))
     go k p = omega arith
 
 -- THE LAW OF MODULE 1: reading digit i of what was packed gives code i, and past the last code 0: the fill bits are zero
-pub read-packed : (w : ℕ) (codes : List ℕ) → isWidth w ≡ true → aboveTop (top w) codes ≡ false
+pub read-packed : (w : ℕ) (codes : List ℕ) → isWidth w ≡ true → anyAbove (top w) codes ≡ false
     → (i : ℕ) → digitAt w (packed w codes) i ≡ getD codes i 0
 unfolding digitAt packedByte
 read-packed w codes h fits i = go (ltb (i / perByte w) (packedSize w (length codes))) refl

@@ -1,19 +1,13 @@
 -- What the calls of module 1 answer: the smallest refusal that holds, or 0, and the bytes of the writable buffer after it.
 use Prim.Native.Nat.{ℕ}
-use mathlib.Core.Bool.{Bool, not, _||_, cond}
+use mathlib.Core.Bool.{not, _||_, cond}
 use mathlib.Core.List.{List}
-use lib.Dec.{ltb, leb}
-use lib.ListN.{getD, length}
+use lib.Dec.{leb}
 use Rattle.words.specs.Bytes.{bytesOf}
-use Rattle.words.specs.Lists.{anyBelow}
+use Rattle.words.specs.Lists.{anyAbove}
 use Rattle.words.specs.Limits.{mostScalarDims}
 use Rattle.words.specs.Refusals.{answer, badDims, badLength}
 use Rattle.digits.specs.Digits.{isWidth, top, packedSize, digitAt, packed}
-
--- one of the codes is above the top code
-unfoldable pub aboveTop : ℕ → List ℕ → Bool
-unfolding anyBelow
-aboveTop t codes = anyBelow (length codes) (λ i. ltb t (getD codes i 0))
 
 unfoldable pub sizeNumber : ℕ → ℕ → List ℕ → ℕ
 sizeNumber dims bits out = cond (badDims mostScalarDims dims) 1 (cond (not (isWidth bits)) 2 (cond (badLength out 4) 3 0))
@@ -26,7 +20,7 @@ packNumber dims bits codes out =
     cond (badDims mostScalarDims dims) 1
     (cond (not (isWidth bits)) 2
     (cond (badLength codes dims || badLength out (packedSize bits dims)) 3
-    (cond (aboveTop (top bits) codes) 5 0)))
+    (cond (anyAbove (top bits) codes) 5 0)))
 
 unfoldable pub packAnswer : ℕ → ℕ → List ℕ → List ℕ → ℕ × List ℕ
 packAnswer dims bits codes out = answer (packNumber dims bits codes out) out (packed bits codes)

@@ -136,12 +136,7 @@ pub fn digits_size(dims: u32, bits: u32, out: &mut [u8]) -> u32
     let Found::Width(w) = Width::of_bits(bits) else {
         return words::BAD_WIDTH;
     };
-    if out.len() != 4 {
-        return words::BAD_LENGTH;
-    }
-    let size = parts::packed_size(w, dims as usize);
-    words::put_number(out, size as u32);
-    words::ACCEPTED
+    words::put_size(out, parts::packed_size(w, dims as usize))
 }
 
 // The codes, 8 / bits of them to a byte.
@@ -160,7 +155,7 @@ pub fn digits_pack(dims: u32, bits: u32, codes: &[u8], packed: &mut [u8]) -> u32
     if packed.len() != parts::packed_size(w, dims as usize) {
         return words::BAD_LENGTH;
     }
-    if parts::above_top(w, codes) {
+    if words::any_above(w.top(), codes) {
         return words::BAD_VALUE;
     }
     parts::pack(w, codes, packed);

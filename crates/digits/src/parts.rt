@@ -2,14 +2,13 @@
 // a literal for each width: LLVM makes a loop of its own of each, and one proof serves the four.
 ghost use mathlib.Core.Path.{_≡_};
 ghost use mathlib.Core.Bool.{true, false};
-ghost use Prim.Native.Nat.{ℕ, _+_, _*_, _/_, _%_, _^_, _≤_, _<_, max};
-ghost use lib.Dec.{ltb};
+ghost use Prim.Native.Nat.{ℕ, _+_, _*_, _/_, _%_, _^_, _≤_, _<_};
 ghost use lib.ListN.{length, getD};
 ghost use Rattle.words.specs.Bytes.{numAt};
 ghost use Rattle.words.specs.Digits.{join};
 ghost use Rattle.words.specs.Limits.{mostScalarDims};
+ghost use Rattle.words.specs.Lists.{anyAbove};
 ghost use Rattle.digits.specs.Digits.{bitsOf, isWidth, levels, top, perByte, packedSize, digitAt, packed};
-ghost use Rattle.digits.specs.Calls.{aboveTop};
 use super::Width;
 use words::u32_at;
 use words::u64_at;
@@ -49,36 +48,10 @@ pub fn digit(w: Width, s: &[u8], i: usize) -> u32
     }
 }
 
-// Whether a code is above the top code of the width.
-pub fn above_top(w: Width, codes: &[u8]) -> bool
-    ensures { λ r. ⌜ r ≡ aboveTop (top (bitsOf w)) (now (codes .entry)) ⌝ }
-{
-    let t = w.top();
-    t < (largest(codes) as u32)
-}
-
-// The largest of the codes.
-fn largest(codes: &[u8]) -> u8
-    ensures { λ r. ⌜ ((t : ℕ) → ltb t r ≡ aboveTop t (now (codes .entry))) ⌝ }
-{
-    let mut m: u8 = 0;
-    let mut i = 0usize;
-    while i < codes.len() {
-        m = larger(m, codes[i]);
-        i += 1;
-    }
-    m
-}
-
-fn larger(a: u8, b: u8) -> u8
-    ensures { λ r. ⌜ r ≡ max a b ⌝ }
-{
-    if a < b { b } else { a }
-}
-
 // The codes, packed.
 pub fn pack(w: Width, codes: &[u8], out: &mut [u8])
-    requires { ⌜ (length (now codes) ≤ mostScalarDims) × (length (now out) ≡ packedSize (bitsOf w) (length (now codes))) × (aboveTop (top (bitsOf w)) (now codes) ≡ false) ⌝ }
+    requires { ⌜ (length (now codes) ≤ mostScalarDims) × (length (now out) ≡ packedSize (bitsOf w) (length (now codes)))
+        × (anyAbove (top (bitsOf w)) (now codes) ≡ false) ⌝ }
     ensures { λ r. ⌜ now (out .exit) ≡ packed (bitsOf w) (now (codes .entry)) ⌝ }
 {
     match w {
@@ -90,7 +63,8 @@ pub fn pack(w: Width, codes: &[u8], out: &mut [u8])
 }
 
 fn pack_bits(bits: u32, per: usize, codes: &[u8], out: &mut [u8])
-    requires { ⌜ (isWidth bits ≡ true) × (per ≡ perByte bits) × (length (now codes) ≤ mostScalarDims) × (length (now out) ≡ packedSize bits (length (now codes))) × (aboveTop (top bits) (now codes) ≡ false) ⌝ }
+    requires { ⌜ (isWidth bits ≡ true) × (per ≡ perByte bits) × (length (now codes) ≤ mostScalarDims)
+        × (length (now out) ≡ packedSize bits (length (now codes))) × (anyAbove (top bits) (now codes) ≡ false) ⌝ }
     ensures { λ r. ⌜ now (out .exit) ≡ packed bits (now (codes .entry)) ⌝ }
 {
     let mut k = 0usize;
@@ -168,7 +142,7 @@ fn wide(x: u8) -> u16
 
 // n codes from place at on, in one byte.
 fn join_codes(bits: u32, n: usize, codes: &[u8], at: usize) -> u8
-    requires { ⌜ (isWidth bits ≡ true) × (n ≤ perByte bits) × (at + n ≤ length (now codes)) × (aboveTop (top bits) (now codes) ≡ false) ⌝ }
+    requires { ⌜ (isWidth bits ≡ true) × (n ≤ perByte bits) × (at + n ≤ length (now codes)) × (anyAbove (top bits) (now codes) ≡ false) ⌝ }
     ensures { λ r. ⌜ r ≡ join bits n (λ j. getD (now (codes .entry)) (at + j) 0) ⌝ }
 {
     let mut byte: u8 = 0;

@@ -6,27 +6,21 @@ use mathlib.Core.List.{List}
 use native.Mathlib.Omega.{arith}
 use lib.Dec.{eqb}
 use lib.ListN.{length}
-use borrow.Author.Tests.{eqb-true, not-false}
 use lib.Ieee.{isNan, lt, ofBits, binary32}
 use Rattle.words.specs.Bytes.{floatBytes}
-use Rattle.words.specs.Limits.{mostDims}
+use Rattle.words.specs.Limits.{mostDims, topCode}
+use Rattle.words.specs.Lists.{anyAbove}
 use Rattle.words.specs.Metrics.{metricOf}
-use Rattle.words.specs.Refusals.{answer, orElse, badDims, badLength, badForm}
-use Rattle.words.proofs.RefusalLaws.{no-row, neither, sized, unsized, few-dims, else-first, else-second, after-refused, accepts, refuses}
+use Rattle.words.specs.Refusals.{orElse, badDims, badLength, badForm}
+use Rattle.words.proofs.RefusalLaws.{length-is, refuses-as, no-row, neither, sized, unsized, few-dims, else-first, else-second, accepts, refuses}
 use Rattle.code.specs.Code.{codeSize}
 use Rattle.block.specs.Block.{blockSize}
 use Rattle.sums.specs.Held as held
-use Rattle.sums.specs.Sums.{aboveTop}
-use Rattle.sums.proofs.QueryLaws.{query}
+use Rattle.sums.proofs.CallLaws.{query}
 use Rattle.estimate.specs.declared.Asked.{Asked}
 use Rattle.estimate.specs.declared.Query.{Query}
 use Rattle.estimate.specs.Record.{codeEstimate, laneWords}
 use Rattle.estimate.specs.Calls.{missingQuery, badQuery, queryNumber, recordNumber, codeNumber, codeAnswer, blockAnswer}
-
--- a buffer that is of its length
-pub length-is : (s : List ℕ) (n : ℕ) → badLength s n ≡ false → length s ≡ n
-unfolding badLength
-length-is s n e = eqb-true (length s) n (not-false _ e)
 
 -- ---- the refusals 1 to 5 of a call with a query
 
@@ -83,7 +77,7 @@ module _ (dims : ℕ) (other : Bool) (v : Query) (qs : List ℕ) (form : Bool) w
       let r5 = no-row (form || badQuery v qs) 4 0 (r4 .1) in
       let lengths = neither (badLength qs dims) other (r3 .0) in
       let values = neither form (badQuery v qs) (r5 .0) in
-      let low = neither (lt (v .«dis_v_2») (ofBits binary32 0)) (aboveTop qs) (values .1) in
+      let low = neither (lt (v .«dis_v_2») (ofBits binary32 0)) (anyAbove topCode qs) (values .1) in
       let same = length-is qs dims (lengths .0) in
       let few = few-dims mostDims dims (r1 .0) in
       record { codes = query qs (omega arith) (low .1); size = same; others = lengths .1; formed = values .0 }
@@ -113,11 +107,6 @@ module _ (metric dims size room : ℕ) (v : Query) (qs rec out : List ℕ) where
   pub record-bad-dims : badDims mostDims dims ≡ true → recordNumber metric dims size room v qs rec out ≡ 1
   unfolding recordNumber
   record-bad-dims h = bad-dims dims _ v qs _ h
-
--- a refusal that an earlier test gave
-pub refuses-as : (n r : ℕ) (old new : List ℕ) → r ≡ n → (r ≡ 0 → ⊥) → (r, old) ≡ answer n old new
-unfolding answer
-refuses-as n r old new e h = rw (sym e, after-refused r old new h) refl
 
 -- ---- the answers, at each return
 

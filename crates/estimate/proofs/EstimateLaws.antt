@@ -1,24 +1,22 @@
 -- Laws of specs/Estimate and specs/Record: a sum as a float, the formulas case by case, tests for NaN. Assumes nothing.
 use mathlib.Core.Path.{_≡_, refl, sym, ap, subst, _∙_}
-use mathlib.Core.Bool.{Bool, true, false, not}
-use Prim.Native.Nat.{ℕ, _+_, _-_, _*_, _/_, _%_, _≤_, _<_}
+use mathlib.Core.Bool.{true, false, not}
+use Prim.Native.Nat.{ℕ, _+_, _*_, _≤_, _<_}
 use native.Mathlib.Omega.{arith}
 use mathlib.Core.List.{List}
 use lib.Dec.{T}
-use lib.ListN.{length, take, drop}
-use lib.Seq.{sets, length-sets}
+use lib.ListN.{length, getD, take, drop}
+use lib.Seq.{sets, length-sets, take-all}
 use lib.IntN.{pos}
-use lib.Ieee.{Float, nan, inf, fin, binary32, inFloat, fits, isNan, nanBits, ne, lt, ofBits, toBits}
+use lib.Ieee.{Float, nan, inf, fin, binary32, inFloat, fits, isNan, lt, ofBits, toBits}
 use lib.Ieee.Fits.{add-fits, sub-fits}
-use lib.Ieee.Compare.{differs-from-itself}
-use lib.Ieee.Bits.{nanBits-is, is-false}
 use borrow.Author.Tests.{le-leb}
-use Rattle.words.specs.Bytes.{numAt, f32At, bytesOf, floatBytes, wordsOf}
-use Rattle.words.specs.Floats.{notFinite}
+use Rattle.words.specs.Bytes.{f32At, bytesOf, floatBytes, wordsOf}
+use Rattle.words.specs.Floats.{notFinite, anyNan}
 use Rattle.words.specs.Limits.{mostSum}
 use Rattle.words.specs.declared.Metric.{Metric}
 use Rattle.words.specs.declared.Metric.the-variants.{L2, Dot}
-use Rattle.words.proofs.FloatLaws.{same-no-nan, nan-pattern, no-nan-pattern}
+use Rattle.words.proofs.ListLaws.{none-at}
 use Rattle.words.proofs.WordsLaws.{words-ext, words-more}
 use Rattle.code.specs.declared.parts.reader.Factors.{Factors}
 use Rattle.code.specs.Code.{codeBit, wordsBit}
@@ -31,7 +29,7 @@ use Rattle.estimate.specs.declared.Asked.the-variants.{Rough, LowerBound
 use Rattle.estimate.specs.declared.Query.{Query}
 use Rattle.estimate.specs.declared.Ready.{Ready}
 use Rattle.estimate.specs.Estimate.{_⊕_, _⊗_, halved, near, far, rough, spread, lowerBound, estimate}
-use Rattle.estimate.specs.Record.{estimateOf, laneEstimate, laneWords, estimateWords, IsReady}
+use Rattle.estimate.specs.Record.{estimateOf, laneFactors, laneEstimate, laneWords, estimateWords, IsReady}
 
 -- a sum is turned to f32 without loss
 pub sum-in-float : (n : ℕ) → n ≤ mostSum → T (inFloat binary32 (pos n))
@@ -82,15 +80,29 @@ unfolding floatBytes
 floats-more out out′ k x f h e ex w =
     rw (e, ex) (words-more out k (λ j. toBits binary32 (f j)) h w, length-sets out (4 * k) (bytesOf 4 (toBits binary32 (f k))))
 
+-- a factor of a block that has no NaN among them
+pub number-factor : (block : List ℕ) → anyNan 128 block ≡ false → (i : ℕ) → i < 128 → isNan (f32At block i) ≡ false
+unfolding anyNan
+number-factor block h = none-at (λ i. isNan (f32At block i)) 128 h
+
+-- ---- the loops that write the estimates of 32 lanes from their sums
+
+-- k of them are written
+abbrev pub Written : Asked → Metric → Ready → List ℕ → List ℕ → List ℕ → ℕ → Type 0
+Written w m p s block out k = (k ≤ 32) × (length out ≡ 128) × (take (4 * k) out ≡ estimateWords k w m p s block)
+
+module _ (w : Asked) (m : Metric) (p : Ready) (s block out : List ℕ) (k : ℕ) (h : Written w m p s block out k) where
+  pub lane-more : (out′ : List ℕ) (x : Float) (f : Factors) → k < 32 → f ≡ laneFactors block k → x ≡ estimate w m (p .v) f (getD s k 0) (p .total)
+      → out′ ≡ sets out (4 * k) (floatBytes x) → Written w m p s block out′ (k + 1)
+  lane-more out′ x f l ef ex e =
+      let one = ex ∙ ap (λ (f : Factors). estimate w m (p .v) f (getD s k 0) (p .total)) ef in
+      let next = floats-more out out′ k x _ (omega arith) e one (h .2) in
+      (omega arith, next .1 ∙ h .1, next .0)
+
+  pub lanes-written : 32 ≤ k → out ≡ estimateWords 32 w m p s block
+  lanes-written l = let e : k ≡ 32 = omega arith in sym (take-all 128 out (omega arith)) ∙ (rw e at (h .2))
+
 -- ---- tests on a float
-
--- a float differs from itself where it is a NaN
-pub nan-tells : (x : Float) → ne x x ≡ true → isNan x ≡ true
-unfolding isNan
-nan-tells x e = rw (differs-from-itself x (subst T (sym e) tt)) refl
-
-pub number-tells : (x : Float) → ne x x ≡ false → isNan x ≡ false
-number-tells x e = is-false (isNan x) (same-no-nan x e)
 
 -- a finite float lies between the infinities
 pub below-infinity : (x : Float) → lt (ofBits binary32 0xFF80_0000) x ≡ true → not (lt x (ofBits binary32 0x7F80_0000)) ≡ notFinite x
@@ -106,18 +118,3 @@ not-above nan e = refl
 not-above (inf true) e = refl
 not-above (inf false) e = refl
 not-above (fin s m k) e = e
-
--- ---- a NaN by its pattern, its sign taken off
-
-pub nan-there : (s : List ℕ) (i n : ℕ) → n ≡ numAt 4 s (4 * i) → 0x7F80_0000 < n - n / 0x8000_0000 * 0x8000_0000 → isNan (f32At s i) ≡ true
-unfolding f32At isNan
-nan-there s i n e h = let l : 0x7F80_0000 < n % 0x8000_0000 = omega arith in rw (sym e, nan-pattern n l) refl
-
-pub number-there : (s : List ℕ) (i n : ℕ) → n ≡ numAt 4 s (4 * i) → n - n / 0x8000_0000 * 0x8000_0000 ≤ 0x7F80_0000 → isNan (f32At s i) ≡ false
-unfolding f32At
-number-there s i n e h =
-    let l : n % 0x8000_0000 ≤ 0x7F80_0000 = omega arith in
-    rw (sym e) (sym (nanBits-is binary32 n) ∙ is-false (nanBits binary32 n) (no-nan-pattern n l))
-
-pub number-pattern : (n : ℕ) → isNan (ofBits binary32 n) ≡ false → T (not (nanBits binary32 n))
-number-pattern n e = subst (λ (b : Bool). T (not b)) (sym (nanBits-is binary32 n ∙ e)) tt

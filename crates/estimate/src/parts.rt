@@ -1,15 +1,13 @@
 // What the calls here and in the crates above are made of, for callers that have judged their inputs.
 ghost use mathlib.Core.Path.{_≡_};
-ghost use mathlib.Core.Bool.{cond, false, not, _||_};
-ghost use Prim.Native.Nat.{ℕ, _+_, _*_, _<_, _≤_};
+ghost use mathlib.Core.Bool.{false, not, _||_};
+ghost use Prim.Native.Nat.{_<_, _≤_};
 ghost use lib.Dec.{eqb};
-ghost use lib.Ieee.{ofInt, isNan, binary32};
+ghost use lib.Ieee.{ofInt, binary32};
 ghost use lib.IntN.{pos};
 ghost use lib.ListN.{length};
-ghost use Rattle.words.specs.Bytes.{f32At};
-ghost use Rattle.words.specs.Floats.{notFinite};
-ghost use Rattle.words.specs.Limits.{mostDims, mostSum, mostPlaces};
-ghost use Rattle.words.specs.Lists.{anyBelow};
+ghost use Rattle.words.specs.Floats.{notFinite, anyNan};
+ghost use Rattle.words.specs.Limits.{mostDims, mostSum};
 ghost use Rattle.words.specs.Refusals.{badDims, badForm};
 ghost use Rattle.code.specs.Code.{codeSize};
 ghost use Rattle.sums.specs.Held as held;
@@ -29,10 +27,11 @@ use words::BAD_LENGTH;
 use words::BAD_VALUE;
 use words::MISSING;
 use words::Metric;
+use words::any_nan;
 use words::bad_form;
 use words::f32_at;
+use words::number_at;
 use words::put_f32;
-use words::u32_at;
 
 // ---- the formulas
 
@@ -216,45 +215,9 @@ pub fn code_estimate(w: Asked, m: Metric, p: Ready, q: &[u8], planes: &[u64], co
 
 // ---- the lanes of a block
 
-// 1 where the float of place i is a NaN, else 0.
-fn nan_at(s: &[u8], i: usize) -> u32
-    requires { ⌜ 4 * i + 4 ≤ length (now s) ⌝ }
-    ensures { λ r. ⌜ (r ≡ cond (isNan (f32At (now (s .entry)) i)) 1 0) × (r ≤ 1) ⌝ }
-{
-    let n = u32_at(s, 4 * i);
-    let sign = n / 0x8000_0000;
-    if 0x7F80_0000 < n - sign * 0x8000_0000 {
-        1
-    } else {
-        0
-    }
-}
-
-// Whether one of the first c floats is a NaN. The loop counts and doesn't leave early: so it goes by vectors.
-pub fn any_nan(s: &[u8], c: usize) -> bool
-    requires { ⌜ (4 * c ≤ length (now s)) × (c ≤ mostPlaces) ⌝ }
-    ensures { λ r. ⌜ r ≡ anyBelow c (λ j. isNan (f32At (now (s .entry)) j)) ⌝ }
-{
-    let mut bad = 0u32;
-    let mut i = 0usize;
-    while i < c {
-        bad += nan_at(s, i);
-        i += 1;
-    }
-    0 < bad
-}
-
-// The float of place i where it is no NaN.
-fn number_at(s: &[u8], i: usize) -> f32
-    requires { ⌜ (4 * i + 4 ≤ length (now s)) × (isNan (f32At (now s) i) ≡ false) ⌝ }
-    ensures { λ r. ⌜ r ≡ f32At (now (s .entry)) i ⌝ }
-{
-    f32::from_bits(u32_at(s, 4 * i))
-}
-
 // The factors of a lane where no factor of the block is a NaN.
 fn lane_numbers(block: &[u8], k: usize) -> Factors
-    requires { ⌜ (k < 32) × (512 ≤ length (now block)) × (anyBelow 128 (λ j. isNan (f32At (now block) j)) ≡ false) ⌝ }
+    requires { ⌜ (k < 32) × (512 ≤ length (now block)) × (anyNan 128 (now block) ≡ false) ⌝ }
     ensures { λ r. ⌜ r ≡ laneFactors (now (block .entry)) k ⌝ }
 {
     Factors {
@@ -280,7 +243,7 @@ fn put_any(w: Asked, m: Metric, p: Ready, s: &[u32], block: &[u8], out: &mut [u8
 
 // The same where no factor is a NaN: a test less for each of them.
 fn put_numbers(w: Asked, m: Metric, p: Ready, s: &[u32], block: &[u8], out: &mut [u8])
-    requires { ⌜ Fits p (now s) × (512 ≤ length (now block)) × (length (now out) ≡ 128) × (anyBelow 128 (λ j. isNan (f32At (now block) j)) ≡ false) ⌝ }
+    requires { ⌜ Fits p (now s) × (512 ≤ length (now block)) × (length (now out) ≡ 128) × (anyNan 128 (now block) ≡ false) ⌝ }
     ensures { λ _. ⌜ now (out .exit) ≡ estimateWords 32 w m p (now (s .entry)) (now (block .entry)) ⌝ }
 {
     let mut k = 0usize;

@@ -7,8 +7,8 @@ use lib.Dec.{leb, ltb}
 use lib.ListN.{length}
 use lib.Ieee.{Float, isNan}
 use Rattle.words.specs.Floats.{missing}
-use Rattle.words.specs.Limits.{mostDims, mostScalarDims, mostRecords}
-use Rattle.words.specs.Lists.{anyBelow}
+use Rattle.words.specs.Limits.{mostDims, mostScalarDims, mostRecords, topCode}
+use Rattle.words.specs.Lists.{anyBelow, anyAbove}
 use Rattle.words.specs.Metrics.{metricOf}
 use Rattle.words.specs.Refusals.{answer, orElse, badDims, badLength, badForm, sizeNumber, sizeAnswer}
 use Rattle.words.proofs.RefusalLaws.{after-refused}
@@ -24,7 +24,6 @@ use Rattle.code.specs.Code.{codeSize}
 use Rattle.code.specs.Calls as code
 use Rattle.block.specs.Block.{blockSize}
 use Rattle.block.specs.Calls as block
-use Rattle.sums.specs.Sums.{aboveTop}
 use Rattle.sums.specs.Calls as sums
 use Rattle.estimate.specs.declared.Query.{Query}
 use Rattle.estimate.specs.Record.{codeEstimate}
@@ -62,10 +61,16 @@ sized : {numbers : List ℕ} (dims : ℕ) (out : List ℕ) → Listed numbers 1 
 unfolding sizeNumber
 sized dims out h1 h3 h0 = row (badDims mostDims dims) h1 (row (badLength out 4) h3 h0)
 
+vectors : (dims : ℕ) (vector lo hi : List ℕ) (other form : Bool) → Listed (0 ∷ 1 ∷ 2 ∷ 3 ∷ 4 ∷ 5 ∷ []) (scalar.vectorsNumber dims vector lo hi other form)
+unfolding scalar.vectorsNumber
+vectors dims vector lo hi other form =
+    row (scalar.badVectors dims vector lo hi || other) (at refl)
+    (row (scalar.anyMissing dims vector lo hi) (at refl) (row (scalar.aboveMax dims lo hi || form) (at refl) (at refl)))
+
 summed : (dims : ℕ) (query : List ℕ) (other : Bool) → Listed (0 ∷ 1 ∷ 3 ∷ 5 ∷ []) (sums.sumNumber dims query other)
 unfolding sums.sumNumber
 summed dims query other =
-    row (badDims mostDims dims) (at refl) (row (badLength query dims || other) (at refl) (row (aboveTop query) (at refl) (at refl)))
+    row (badDims mostDims dims) (at refl) (row (badLength query dims || other) (at refl) (row (anyAbove topCode query) (at refl) (at refl)))
 
 queried : {numbers : List ℕ} (dims : ℕ) (other : Bool) (v : Query) (query : List ℕ) (form : Bool)
     → Listed numbers 1 → Listed numbers 3 → Listed numbers 4 → Listed numbers 5 → Listed numbers 0
@@ -95,7 +100,7 @@ module-1 = (
       meets _ _ (row (badDims mostScalarDims dims) (at refl) (row (not (isWidth bits)) (at refl) (row (badLength out 4) (at refl) (at refl)))),
   λ dims bits codes out.
       meets _ _ (row (badDims mostScalarDims dims) (at refl) (row (not (isWidth bits)) (at refl)
-      (row (badLength codes dims || badLength out (packedSize bits dims)) (at refl) (row (digits.aboveTop (top bits) codes) (at refl) (at refl))))),
+      (row (badLength codes dims || badLength out (packedSize bits dims)) (at refl) (row (anyAbove (top bits) codes) (at refl) (at refl))))),
   λ dims bits packed index out.
       meets _ _ (row (badDims mostScalarDims dims) (at refl) (row (not (isWidth bits)) (at refl)
       (row (badLength packed (packedSize bits dims) || badLength out 4) (at refl) (row (leb dims index) (at refl) (at refl))))),
@@ -109,12 +114,10 @@ unfolding scalar.encodeAnswer scalar.encodeNumber scalar.tableAnswer scalar.tabl
 module-2 = (
   λ dims bits vector lo hi out.
       meets _ _ (row (badDims mostScalarDims dims) (at refl) (row (not (isWidth bits)) (at refl)
-      (row (scalar.badVectors dims vector lo hi || badLength out (packedSize bits dims)) (at refl)
-      (row (scalar.anyMissing dims vector lo hi) (at refl) (row (scalar.aboveMax dims lo hi) (at refl) (at refl)))))),
+      (vectors dims vector lo hi (badLength out (packedSize bits dims)) false))),
   λ metric dims bits vector lo hi out.
       meets _ _ (row (badDims mostScalarDims dims) (at refl) (row (not (isWidth bits)) (at refl)
-      (row (scalar.badVectors dims vector lo hi || badLength out (tableSize bits dims)) (at refl)
-      (row (scalar.anyMissing dims vector lo hi) (at refl) (row (scalar.aboveMax dims lo hi || badForm metric) (at refl) (at refl)))))),
+      (vectors dims vector lo hi (badLength out (tableSize bits dims)) (badForm metric)))),
   λ metric dims bits table packed out.
       meets _ _ (row (badDims mostScalarDims dims) (at refl) (row (not (isWidth bits)) (at refl)
       (row (badLength table (tableSize bits dims) || badLength packed (packedSize bits dims) || badLength out 4) (at refl)

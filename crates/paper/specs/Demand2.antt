@@ -9,9 +9,9 @@ use lib.Ieee.{isNan}
 use Rattle.words.specs.Bytes.{f32At}
 use Rattle.words.specs.Digits.{bit}
 use Rattle.words.specs.Limits.{mostDims, topCode}
+use Rattle.words.specs.Lists.{anyAbove}
 use Rattle.words.specs.declared.Metric.{Metric}
 use Rattle.digits.specs.Digits.{isWidth, levels, top, digitAt, packed}
-use Rattle.digits.specs.Calls.{aboveTop}
 use Rattle.scalar.specs.Table.{tableBytes, entryAt}
 use Rattle.code.specs.Code.{codeWords, codeSize, codeWord, codeBit, codeOf, clearedCode}
 use Rattle.code.specs.Calls.{signClear}
@@ -42,7 +42,7 @@ ZeroBlockPads dims whole = (k d : ℕ) → k < 32 → dims ≤ d → d < 4 * blo
 
 pub record Demand2 : Type 0 where
   -- digits: reading digit i of what was packed gives code i, and 0 past the last
-  pub digits : (w : ℕ) (codes : List ℕ) → isWidth w ≡ true → aboveTop (top w) codes ≡ false
+  pub digits : (w : ℕ) (codes : List ℕ) → isWidth w ≡ true → anyAbove (top w) codes ≡ false
       → (i : ℕ) → digitAt w (packed w codes) i ≡ getD codes i 0
   -- a scalar table: entry j of dimension i reads back as the entry of the definition
   pub entries : (m : Metric) (w dims : ℕ) (vector lo hi : List ℕ) (i j : ℕ) → i < dims → j < levels w

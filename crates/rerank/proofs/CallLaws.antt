@@ -1,21 +1,20 @@
 -- The answers of `next` and `supply`, a law a return. Assumes nothing.
-use mathlib.Core.Path.{_≡_, refl, sym, subst, ap, ap₂, _∙_}
-use mathlib.Core.Bool.{Bool, true, false, not, _||_, cond}
+use mathlib.Core.Path.{_≡_, refl, sym, ap, ap₂, _∙_}
+use mathlib.Core.Bool.{Bool, true, false, not, _||_, cond, or-true}
 use mathlib.Core.List.{List, [], _∷_, _++_}
 use Prim.Native.Nat.{ℕ, zero, suc, _+_, _*_, _<_, _≤_}
 use native.Mathlib.Nat.{zero-add}
 use native.Mathlib.Omega.{arith}
 use borrow.Author.Tests.{lt-ltb, le-ltb, eq-eqb}
-use lib.Dec.{T, eqb}
+use lib.Dec.{eqb}
 use lib.ListN.{length, getD, set, length-set, length-append}
 use lib.Seq.{sets}
-use lib.Ieee.{Float, nan, inf, fin, isNan, ne, binary32, ofBits, toBits}
-use lib.Ieee.Compare.{differs-from-itself}
+use lib.Ieee.{Float, isNan, ne, binary32, ofBits, toBits}
 use Rattle.words.specs.Bytes.{bytesOf, floatBytes}
 use Rattle.words.specs.Limits.{mostPlaces}
 use Rattle.words.specs.Refusals.{after, badLength}
 use Rattle.words.proofs.ByteLaws.{length-bytesOf, length-floatBytes, sets-append, sets-all}
-use Rattle.words.proofs.FloatLaws.{same-no-nan}
+use Rattle.words.proofs.FloatLaws.{nan-tells, number-tells}
 use Rattle.words.proofs.RefusalLaws.{after-refused, sized, unsized, none-bad}
 use Rattle.rerank.specs.Rerank.{State, answerOf, asksFor, missing, badMark, nextRefusal, supplyRefusal, oneOrTwo, counted}
 use Rattle.rerank.specs.Calls.{stateOf, badLists, answerMarks, answerBytes, nextNumber, nextAnswer, supplyNumber, supplyAnswer}
@@ -204,20 +203,6 @@ module _ (e d m out : List ℕ) (b : Bool) (h : b ≡ badLists e d m) where
         rw (number-is ∙ z, ← a) (ap₂ (λ (x y : List ℕ). (0, x, y)) p (q ∙ ap (answerBytes (r .answer)) (next-count e d m r k z (r .answer) a)))
 
 -- ---- supply
-nan-yes : (x : Float) → ne x x ≡ true → isNan x ≡ true
-unfolding isNan
-nan-yes x e = rw (differs-from-itself x (subst T (sym e) tt))
-
-nan-no : (x : Float) → ne x x ≡ false → isNan x ≡ false
-unfolding isNan
-nan-no nan e = absurd (same-no-nan nan e)
-nan-no (inf s) e = refl
-nan-no (fin s m k) e = refl
-
-or-true : (a : Bool) → (a || true) ≡ true
-or-true true = refl
-or-true false = refl
-
 -- a supply's table has the rows of next's, where the distance is a number
 same-rows : (s : State) (p : ℕ) (x : Float) → isNan x ≡ false → (nextRefusal s ≡ 0 → ⊥) → nextRefusal s ≡ supplyRefusal s p x
 unfolding nextRefusal supplyRefusal
@@ -257,16 +242,16 @@ module _ (e d m out : List ℕ) (p : ℕ) (x : Float) (b : Bool) (h : b ≡ badL
         rw (supply-is ∙ sym q, after-refused n d d' z, after-refused n m (set m p 1) z, after-refused n out new z)
 
     pub supply-nan : ne x x ≡ true → (4, d, m, out) ≡ supplyAnswer e d m p x out
-    supply-nan n = refuses 4 (unfold supplyRefusal in rw (nan-yes x n, or-true (missing (stateOf e d m)))) (λ z. omega arith)
+    supply-nan n = refuses 4 (unfold supplyRefusal in rw (nan-tells x n, or-true (missing (stateOf e d m)))) (λ z. omega arith)
 
     module _ (n : ne x x ≡ false) (r : Ruling) (k : Ruled e d m r) where
       pub supply-refused : (r .refused ≡ 0 → ⊥) → (r .refused, d, m, out) ≡ supplyAnswer e d m p x out
       supply-refused z =
-          refuses (r .refused) (k .refusal ∙ same-rows (stateOf e d m) p x (nan-no x n) (λ w. z (k .refusal ∙ w))) z
+          refuses (r .refused) (k .refusal ∙ same-rows (stateOf e d m) p x (number-tells x n) (λ w. z (k .refusal ∙ w))) z
 
       module _ (z : r .refused ≡ 0) where
         last : supplyRefusal (stateOf e d m) p x ≡ cond (asksFor (r .answer) p) 0 9
-        last = rw (k .says z .0) (last-row (stateOf e d m) p x (nan-no x n) (sym (k .refusal) ∙ z))
+        last = rw (k .says z .0) (last-row (stateOf e d m) p x (number-tells x n) (sym (k .refusal) ∙ z))
 
         pub supply-unasked : asksFor (r .answer) p ≡ false → (9, d, m, out) ≡ supplyAnswer e d m p x out
         supply-unasked q = refuses 9 (rw (last, q)) (λ w. omega arith)

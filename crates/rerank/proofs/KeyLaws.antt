@@ -3,7 +3,7 @@ use mathlib.Core.Path.{_≡_, refl, sym, ap, subst, _∙_}
 use mathlib.Core.Logic.{_⊎_, inl, inr}
 use mathlib.Core.Bool.{Bool, true, false, not, cond}
 use Prim.Native.Nat.{ℕ, zero, suc, _+_, _-_, _*_, _/_, _%_, _^_, _<_, _≤_}
-use native.Mathlib.Nat.{mul-le-mul-left, mul-le-mul-right, mul-pos, mul-assoc, mul-comm, mul-right-comm, le-of-mul-le-mul-right, two-pow-succ}
+use native.Mathlib.Nat.{mul-lt-mul-of-pos-right, mul-le-mul-left, mul-le-mul-right, mul-pos, mul-assoc, mul-comm, mul-right-comm, le-of-mul-le-mul-right, two-pow-succ}
 use native.Mathlib.Decide.{decLt, ℕ-discrete}
 use native.Mathlib.Omega.{arith}
 use borrow.Author.Tests.{ltb-true, ltb-false, lt-ltb, le-ltb, le-leb, lt-leb, eqb-true, eqb-false}
@@ -65,10 +65,7 @@ pow-0 = refl
 value-high : (x t : ℕ) → t < 0x80_0000 → value x t < 0x80_0000 * 2 ^ x
 unfolding value
 value-high zero t h = omega (arith, pow-0)
-value-high (suc x) t h = omega (arith, less (0x80_0000 + t) 0x100_0000 (2 ^ x) (pow-pos x) (omega arith), two-pow-succ x)
-  where
-    less : (m n k : ℕ) → 0 < k → m < n → m * k < n * k
-    less m n k p l = omega (arith, mul-le-mul-right k l)
+value-high (suc x) t h = omega (arith, mul-lt-mul-of-pos-right {m = 0x80_0000 + t} {n = 0x100_0000} (omega arith) (pow-pos x), two-pow-succ x)
 
 value-low : (x t : ℕ) → 0x80_0000 * 2 ^ x ≤ value (suc x) t
 unfolding value

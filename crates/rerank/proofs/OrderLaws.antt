@@ -3,7 +3,7 @@ use mathlib.Core.Path.{_≡_, refl, sym, subst}
 use mathlib.Core.Logic.{_⊎_, inl, inr}
 use mathlib.Core.Bool.{Bool, true, false, not}
 use Prim.Native.Nat.{ℕ, suc, _+_, _*_, _≤_, _<_}
-use native.Mathlib.Nat.{mul-le-mul-right, mul-pos}
+use native.Mathlib.Nat.{mul-le-mul-right, mul-lt-mul-of-pos-right, mul-pos}
 use native.Mathlib.Decide.{decLt}
 use native.Mathlib.Omega.{arith}
 use lib.Dec.{T, ltb, ltb→lt, lt→ltb}
@@ -28,9 +28,6 @@ pub true-false : (b : Bool) → b ≡ true → b ≡ false → ⊥
 true-false b p q = let z : _≡_ {A = Bool} true false = cc in subst {A = Bool} (λ (x : Bool). T x) z tt
 
 -- ---- fractions A / a, B / b, C / c
-less : (m n k : ℕ) → 0 < k → m < n → m * k < n * k
-less m n k p h = omega (arith, mul-le-mul-right k h)
-
 co-fractions : (A B C a b c : ℕ) → 0 < b → A * c < C * a → (A * b < B * a) ⊎ (B * c < C * b)
 co-fractions A B C a b c pb h =
     elim (decLt (A * b) (B * a)) [
@@ -42,7 +39,7 @@ co-fractions A B C a b c pb h =
     clash f g =
         let f1 : B * a ≤ A * b = omega arith in
         let g1 : C * b ≤ B * c = omega arith in
-        omega (arith, less (A * c) (C * a) b pb h, mul-le-mul-right c f1, mul-le-mul-right a g1)
+        omega (arith, mul-lt-mul-of-pos-right h pb, mul-le-mul-right c f1, mul-le-mul-right a g1)
 
 -- the same with signs: what `lt` asks of two finite values
 zero-or : (n : ℕ) → (n ≡ 0) ⊎ (0 < n)
@@ -151,22 +148,6 @@ asym (fin s m e) (inf true) p q = p
 asym (fin s m e) (inf false) p q = q
 asym (fin s m e) (fin t n d) p q = asym-below s t (m * up e * down d) (n * up d * down e) p q
 
-nan-right : (x : Float) → T (lt x nan) → ⊥
-unfolding lt
-nan-right nan t = t
-nan-right (inf s) t = t
-nan-right (fin s m e) t = t
-
-nan-left : (x : Float) → T (lt nan x) → ⊥
-unfolding lt
-nan-left x t = t
-
-no-nan : (z : Float) → (z ≡ nan → ⊥) → T (not (isNan z))
-unfolding isNan
-no-nan nan f = f refl
-no-nan (inf s) f = tt
-no-nan (fin s m e) f = tt
-
 -- As equations, which is how a program's tests are known. `Num x`: x is no NaN.
 abbrev pub Num : Float → Type 0
 Num x = isNan x ≡ false
@@ -189,13 +170,6 @@ less-irrefl x = false-of (lt x x) (λ q. asym x x (of-true (lt x x) q) (of-true 
 
 pub less-co : (x y z : Float) → Num y → Less x z → Less x y ⊎ Less y z
 less-co x y z n h = elim (co x y z (num-T y n) (of-true (lt x z) h)) [ inl p ↦ inl (true-of (lt x y) p) | inr q ↦ inr (true-of (lt y z) q) ]
-
-pub less-trans : (x y z : Float) → Less x y → Less y z → Less x z
-less-trans x y z p q =
-    elim (co x z y (no-nan z (λ e. nan-right y (subst {A = Float} (λ (w : Float). T (lt y w)) e (of-true (lt y z) q)))) (of-true (lt x y) p)) [
-      | inl r ↦ true-of (lt x z) r
-      | inr r ↦ absurd (asym y z (of-true (lt y z) q) r)
-    ]
 
 -- `not below` is transitive through a number
 pub notLess-trans : (x y z : Float) → Num y → NotLess x y → NotLess y z → NotLess x z

@@ -3,26 +3,26 @@ use mathlib.Core.Path.{_≡_, refl, sym, subst, ap, ap₂, _∙_}
 use mathlib.Core.Logic.{_⊎_, inl, inr}
 use mathlib.Core.Bool.{Bool, true, false, not, _&&_, _||_, cond}
 use mathlib.Core.List.{List}
-use Prim.Native.Nat.{ℕ, zero, suc, _+_, _-_, _*_, _/_, _%_, _<_, _≤_}
+use Prim.Native.Nat.{ℕ, zero, suc, _+_, _-_, _*_, _<_, _≤_}
 use native.Mathlib.Decide.{decLt, ℕ-discrete}
 use native.Mathlib.Nat.{zero-add}
 use native.Mathlib.Numerals.{add-one}
 use native.Mathlib.Omega.{arith}
-use borrow.Author.Tests.{ltb-true, ltb-false, lt-ltb, le-ltb, eqb-true, not-false}
+use borrow.Author.Tests.{ltb-true, ltb-false, lt-ltb, le-ltb}
 use lib.Dec.{eqb, leb, ltb}
 use lib.ListN.{length, getD}
 use lib.Ieee.{binary32, nanBits}
-use lib.Ieee.Bits.{nanBits-above, nanBits-is}
+use lib.Ieee.Bits.{nanBits-is}
 use Rattle.words.specs.Bytes.{numAt, f32At}
 use Rattle.words.specs.Limits.{mostPlaces, mostMark}
 use Rattle.words.specs.Lists.{anyBelow}
 use Rattle.words.specs.Refusals.{badLength}
 use Rattle.words.specs.Sums.{sumTo}
-use Rattle.words.proofs.RefusalLaws.{neither}
+use Rattle.words.proofs.RefusalLaws.{neither, length-is}
 use Rattle.words.proofs.SumLaws.{sum-more, sum-le}
 use Rattle.rerank.specs.Rerank.{missingAt, missing, badMark, nextRefusal}
 use Rattle.rerank.specs.Calls.{stateOf, badLists}
-use Rattle.rerank.specs.Scan.{keyOf, noKey, keyIf, lesser, keyAt, leastKey, lacks, lackAt, nanOne, aboveMost, notZero, KeysTo, CountsOf, WithBlock, ScanTo}
+use Rattle.rerank.specs.Scan.{keyOf, noKey, keyIf, lesser, keyAt, leastKey, lacks, lackAt, aboveMost, notZero, KeysTo, CountsOf, WithBlock, ScanTo}
 use Rattle.rerank.specs.Scan.{FirstAt}
 use Rattle.rerank.specs.declared.Keys.{Keys}
 use Rattle.rerank.specs.declared.Counts.{Counts}
@@ -34,28 +34,14 @@ pub record Sized (e d m : List ℕ) : Type 0 where
   pub estimates : length e ≡ 4 * length m
   pub distances : length d ≡ 4 * length m
 
-length-of : (s : List ℕ) (n : ℕ) → badLength s n ≡ false → length s ≡ n
-unfolding badLength
-length-of s n e = eqb-true (length s) n (not-false (eqb (length s) n) e)
-
 pub sized-of : (e d m : List ℕ) → badLists e d m ≡ false → Sized e d m
 unfolding badLists
 sized-of e d m h =
     let a = neither (ltb mostPlaces (length m) || badLength e (4 * length m)) (badLength d (4 * length m)) h in
     let b = neither (ltb mostPlaces (length m)) (badLength e (4 * length m)) (a .0) in
-    record { most = ltb-false mostPlaces (length m) (b .0); estimates = length-of e (4 * length m) (b .1); distances = length-of d (4 * length m) (a .1) }
+    record { most = ltb-false mostPlaces (length m) (b .0); estimates = length-is e (4 * length m) (b .1); distances = length-is d (4 * length m) (a .1) }
 
 -- ---- one place
-module _ (u v : ℕ) (e : v ≡ u - u / 0x8000_0000 * 0x8000_0000) where
-  same-part : v ≡ u % 0x8000_0000
-  same-part = omega arith
-
-  pub nan-yes : 0x7F80_0000 < v → 1 ≡ nanOne u
-  nan-yes h = rw (nanBits-above binary32 u, ← same-part, lt-ltb 0x7F80_0000 v h)
-
-  pub nan-no : v ≤ 0x7F80_0000 → 0 ≡ nanOne u
-  nan-no h = rw (nanBits-above binary32 u, ← same-part, le-ltb 0x7F80_0000 v h)
-
 pub key-up : (u : ℕ) → u < 0x8000_0000 → u + 0x8000_0000 ≡ keyOf u
 unfolding keyOf
 key-up u h = rw (lt-ltb u 0x8000_0000 h) (omega arith)

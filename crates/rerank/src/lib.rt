@@ -45,22 +45,10 @@ fn least_of(a: u32, b: u32) -> u32
     if b < a { b } else { a }
 }
 
-// 1 where the bits are a NaN's.
-fn nan(u: u32) -> u32
-    ensures { λ r. ⌜ (r ≡ nanOne u) × (r ≤ 1) ⌝ }
-{
-    let sign = u / 0x8000_0000;
-    if 0x7F80_0000 < u - sign * 0x8000_0000 {
-        1
-    } else {
-        0
-    }
-}
-
 fn nan_if(is: bool, u: u32) -> u32
     ensures { λ r. ⌜ (r ≡ cond is (nanOne u) 0) × (r ≤ 1) ⌝ }
 {
-    if is { nan(u) } else { 0 }
+    if is { words::nan_one(u) } else { 0 }
 }
 
 // How many NaNs there are, and the least keys of a waiting place and of an asked one.
@@ -79,7 +67,7 @@ fn one_more(s: Keys, m: u8, e: u32, d: u32) -> Keys
 {
     let waiting = least_of(s.waiting, key_if(m == 0, e));
     let asked = least_of(s.asked, key_if(m == 1, d));
-    let missing = s.missing + nan(e) + nan_if(m == 1, d);
+    let missing = s.missing + words::nan_one(e) + nan_if(m == 1, d);
     Keys {
         missing: missing,
         waiting: waiting,

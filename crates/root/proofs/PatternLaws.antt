@@ -4,22 +4,23 @@ use mathlib.Core.Path.{_≡_, refl, sym, ap, _∙_, subst}
 use mathlib.Core.Bool.{Bool, true, false, cond}
 use Prim.Native.Nat.{ℕ, zero, suc, _+_, _-_, _*_, _/_, _%_, _^_, _≤_, _<_}
 use native.Mathlib.Nat.{le-trans, le-of-lt, lt-of-lt-of-le, lt-of-le-of-lt, le-of-suc-le-suc, mod-eq-of-lt, div-eq-of-lt}
-use native.Mathlib.Nat.{mul-div-cancel, mul-le-mul-right, mul-one, mul-pos, mul-assoc, mul-right-comm, zero-add}
+use native.Mathlib.Nat.{mul-div-cancel, mul-le-mul-right, mul-one, mul-pos, mul-assoc, mul-right-comm}
 use native.Mathlib.Omega.{arith}
 use lib.Dec.{T, ltb, lit<}
 use lib.Pow.{pow-add, pow-pos, pow-mono, shl-lt}
-use lib.Ieee.{Float, nan, inf, fin, binary32, up, down, size, odd, units, ofFields, ofBits, toBits, fits}
-use lib.Ieee.Fits.{odd-fits, down-pos}
+use lib.Ieee.{Float, nan, inf, fin, binary32, size, odd, units, ofFields, ofBits, fits}
+use lib.Ieee.Fits.{odd-fits}
 use lib.Ieee.Bits.{ofBits-toBits}
 use lib.Ieee.Exact.{HasValue, odd-sign, units-val}
 use lib.Ieee.Positive.{num, den, positive, den-pos, value→cross, positive-of-value}
 use borrow.Author.Tests.{ltb-true, ltb-false, lt-ltb, lt-leb, ne-eqb}
+use Rattle.words.proofs.FloatLaws.{size-is, bits-of}
 use Rattle.root.specs.Root.{rootOf, roundRoot}
 use Rattle.root.specs.Parts.{unitsOf}
 use Rattle.root.specs.declared.Root.the-variants.{Is}
 use Rattle.root.proofs.SquareLaws.{Floor, root-lt}
 use Rattle.root.proofs.FieldLaws.{Whole, units-subnormal, units-normal}
-use Rattle.root.proofs.RoundingLaws.{size-is, root-down, root-up}
+use Rattle.root.proofs.RoundingLaws.{root-down, root-up}
 
 -- ---- from a pattern to its number
 
@@ -55,15 +56,6 @@ bits-value b h = go (ltb b 0x80_0000) refl
     go false t = let l = ltb-false _ _ t in of-odd _ _ (b / 0x80_0000 - 1) _ (normal b l h) (sym (units-normal b l))
 
 -- ---- from a number to its pattern
-
--- the pattern of a value of a smallest values
-bits-of : (v : Float) (a : ℕ) → HasValue v false a (2 ^ 149) → toBits binary32 v ≡ (size a - 24) * 0x80_0000 + a / 2 ^ (size a - 24)
-unfolding toBits
-bits-of nan a h = absurd h
-bits-of (inf s) a h = absurd h
-bits-of (fin s m e) a h =
-    let n : m * up e * 2 ^ 149 / down e ≡ a = ap (λ (x : ℕ). x / down e) (h .1) ∙ mul-div-cancel a (down-pos e) in
-    rw (n, h .0, zero-add) refl
 
 units-fits : (q k : ℕ) → q ≤ 2 ^ 24 → q * 2 ^ k < 2 ^ 277 → T (fits binary32 (units binary32 false q k))
 unfolding units

@@ -4,12 +4,12 @@ use mathlib.Core.Path.{_≡_, refl, ap, _∙_, subst}
 use mathlib.Core.Bool.{false}
 use Prim.Native.Nat.{ℕ, zero, suc, _+_, _-_, _*_, _/_, _^_, _≤_, _<_, compare}
 use Prim.Native.Nat.{Ordering, Ordering·lt, Ordering·gt, compare·zero-suc, compare·suc-zero, compare·suc-suc}
-use native.Mathlib.Nat.{le-trans, le-antisymm, le-of-suc-le-suc, not-suc-le-zero, lt-of-not-le, lt-of-lt-of-le, not-le-of-lt}
+use native.Mathlib.Nat.{le-trans, le-antisymm, le-of-suc-le-suc, not-suc-le-zero, lt-of-lt-of-le}
 use native.Mathlib.Nat.{mul-pos, mul-div-cancel, mul-lt-mul-of-pos-right, mul-le-mul-right, le-div-iff-mul-le, div-lt-iff-lt-mul}
 use native.Mathlib.Omega.{arith}
-use lib.Pow.{pow-add, pow-pos, pow-mono}
+use lib.Pow.{pow-add, pow-pos}
 use lib.Ieee.{Float, binary32, size, nearest, units}
-use lib.Ieee.Digits.{size-lt, size-le}
+use Rattle.words.proofs.FloatLaws.{size-is}
 use Rattle.root.specs.Isqrt.{isqrt}
 use Rattle.root.specs.Root.{roundRoot}
 use Rattle.root.proofs.SquareLaws.{Floor, root-lt, isqrt-is}
@@ -30,13 +30,6 @@ compare-gt (suc a) (suc b) h = compare·suc-suc a b ∙ compare-gt a b (le-of-su
 
 div-is : (w p q : ℕ) → 0 < p → q * p ≤ w → w < suc q * p → w / p ≡ q
 div-is w p q P l u = le-antisymm (le-of-suc-le-suc (div-lt-iff-lt-mul P .1 u)) (le-div-iff-mul-le P .1 l)
-
--- a number from 2 ^ j up to below 2 ^ (j + 1) has j + 1 digits
-pub size-is : (n j : ℕ) → 2 ^ j ≤ n → n < 2 ^ suc j → size n ≡ suc j
-size-is n j lo hi =
-    let a : size n ≤ suc j = size-le n (suc j) hi in
-    let b : j < size n = lt-of-not-le (λ (g : size n ≤ j). not-le-of-lt (lt-of-lt-of-le (size-lt n) (pow-mono g)) lo) in
-    omega arith
 
 -- ---- the root of n * 4 ^ k begins with the root of n
 

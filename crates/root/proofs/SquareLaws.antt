@@ -1,9 +1,9 @@
 -- Squares: `isqrt` is the whole part of a root, and the only one; Heron's steps. Assumes nothing.
-use mathlib.Core.Path.{_≡_, subst}
+use mathlib.Core.Path.{subst}
 use mathlib.Core.Bool.{Bool, true, false, not, cond}
 use Prim.Native.Nat.{ℕ, zero, suc, _+_, _*_, _/_, _^_, _≤_, _<_}
-use native.Mathlib.Nat.{le-of-lt, lt-of-not-le, not-le-of-lt, lt-suc-self, le-antisymm}
-use native.Mathlib.Nat.{le-of-suc-le-suc, mul-le-mul, mul-le-mul-right, div-lt-iff-lt-mul, le-dest, pow-succ'}
+use native.Mathlib.Nat.{le-of-lt, lt-of-not-le, not-le-of-lt, lt-suc-self}
+use native.Mathlib.Nat.{mul-le-mul, mul-le-mul-right, div-lt-iff-lt-mul, le-dest, pow-succ'}
 use native.Mathlib.Decide.{decLe}
 use native.Mathlib.Omega.{arith}
 use lib.Dec.{T, leb, leb→le, nleb→lt}
@@ -20,15 +20,6 @@ pub root-lt : (a b : ℕ) → a * a < b * b → a < b
 root-lt a b h = lt-of-not-le (λ (g : b ≤ a). not-le-of-lt h (mul-le-mul g g))
 
 -- ---- the definition
-
-at-most : (n s t : ℕ) → Floor n s → Floor n t → s ≤ t
-at-most n s t a b = le-of-suc-le-suc (root-lt s (suc t) (both (s * s) n (suc t * suc t) (a .0) (b .1)))
-  where
-    both : (x y z : ℕ) → x ≤ y → y < z → x < z
-    both x y z h k = omega arith
-
-pub floor-unique : (n s t : ℕ) → Floor n s → Floor n t → s ≡ t
-floor-unique n s t a b = le-antisymm (at-most n s t a b) (at-most n t s b a)
 
 zero-root : (n : ℕ) → n < 1 → Floor n 0
 zero-root n h = (omega arith, omega arith)

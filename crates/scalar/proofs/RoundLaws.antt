@@ -1,12 +1,12 @@
 -- Rounding by adding an even whole number from 2 ^ 23 on: there a float has no digit below its point, so the sum is rounded to a
 -- whole number, ties to even, and its bit pattern counts up with it. Assumes nothing.
-use Prim.Native.Nat.{ℕ, suc, _+_, _-_, _*_, _/_, _%_, _^_, _≤_, _<_, min, zero-le}
+use Prim.Native.Nat.{ℕ, _+_, _-_, _*_, _/_, _%_, _^_, _≤_, _<_, min, zero-le}
 use Prim.Native.Nat.{compare, Ordering, Ordering·lt, Ordering·eq, Ordering·gt}
 use mathlib.Core.Bool.{Bool, true, false, not, cond}
 use mathlib.Core.Path.{_≡_, refl, sym, ap, _∙_, subst}
-use native.Mathlib.Nat.{le-refl, le-trans, le-of-eq, le-of-lt, lt-of-lt-of-le, lt-of-not-le, not-le-of-lt, lt-of-mul-lt-mul-right}
+use native.Mathlib.Nat.{le-refl, le-trans, le-of-eq, le-of-lt, lt-of-lt-of-le, lt-of-mul-lt-mul-right}
 use native.Mathlib.Nat.{mul-one, mul-comm, mul-assoc, mul-right-comm, mul-pos, mul-le-mul-right, mul-lt-mul-of-pos-right, mul-div-cancel}
-use native.Mathlib.Nat.{div-one, mod-one, le-div-iff-mul-le, div-lt-iff-lt-mul, add-mul-div-right, add-mul-mod-self-right, zero-add}
+use native.Mathlib.Nat.{div-one, mod-one, le-div-iff-mul-le, div-lt-iff-lt-mul, add-mul-div-right, add-mul-mod-self-right}
 use native.Mathlib.Nat.{min-le-right, min-eq-left, min-eq-right}
 use native.Mathlib.Omega.{arith}
 use lib.Dec.{T, ltb, eqb}
@@ -14,12 +14,12 @@ use borrow.Author.Tests.{ltb-true, ltb-false, eqb-true, eqb-false, lt-leb}
 use lib.Pow.{pow-pos, pow-mono}
 use lib.IntN.{ℤ, pos}
 use lib.Ieee.{Float, nan, inf, fin, up, down, low, size, odd, nearest, round, add, sum, lt, isNan, toBits, ofFields, ofBits, ofInt, binary32}
-use lib.Ieee.Digits.{size-lt, size-le}
 use lib.Ieee.Fits.{down-pos}
 use lib.Ieee.Exact.{HasValue, odd-sign}
 use lib.Ieee.Back.{round-whole}
 use lib.Ieee.Nearest.{closest, closest-mono, closest-same}
 use lib.Ieee.Scale.{grid, round-val, round-same}
+use Rattle.words.proofs.FloatLaws.{size-is, bits-of}
 use Rattle.scalar.specs.Code.{byRest, rounded, codeOf}
 
 -- ---- the definition's rounding is that of lib.Ieee
@@ -40,26 +40,7 @@ pub rounded-closest : (a b : ℕ) → rounded a b ≡ closest a b
 unfolding rounded
 rounded-closest a b = rw (mul-comm 2 (a % b)) (by-rest (a / b) (compare (a % b * 2) b))
 
--- ---- patterns
-
--- a number from 2 ^ j up to below 2 ^ (j + 1) has j + 1 digits
-size-is : (n j : ℕ) → 2 ^ j ≤ n → n < 2 ^ suc j → size n ≡ suc j
-size-is n j lo hi =
-    let a : size n ≤ suc j = size-le n (suc j) hi in
-    let b : j < size n = lt-of-not-le (λ (g : size n ≤ j). not-le-of-lt (lt-of-lt-of-le (size-lt n) (pow-mono g)) lo) in
-    omega arith
-
--- the pattern of a value of v smallest values
-bits-of-value : (x : Float) (v : ℕ) → HasValue x false v (2 ^ low binary32)
-    → toBits binary32 x ≡ (size v - 24) * 2 ^ 23 + v / 2 ^ (size v - 24)
-unfolding toBits
-bits-of-value nan v h = absurd h
-bits-of-value (inf s) v h = absurd h
-bits-of-value (fin s m e) v h =
-    let n : m * up e * 2 ^ low binary32 / down e ≡ v = ap (λ (z : ℕ). z / down e) (h .1) ∙ mul-div-cancel v (down-pos e) in
-    rw (n, h .0, zero-add) refl
-
--- q held between 0 and t, as the code does it: what is no number, or below 0, is 0
+-- ---- q held between 0 and t, as the code does it: what is no number, or below 0, is 0
 abbrev pub held : Float → Float → Float
 held t q = let x = cond (lt (ofBits binary32 0) q) q (ofBits binary32 0) in cond (lt x t) x t
 
@@ -112,7 +93,7 @@ module _ (a b : ℕ) (B : 0 < b) (lo : 0x80_0000 * b ≤ a) (hi : a ≤ 0xFF_FFF
   pattern =
       let c = closest a b in
       let z : size (c * 2 ^ 149) ≡ 173 = size-is (c * 2 ^ 149) 172 (mul-le-mul-right (2 ^ 149) least) under in
-      bits-of-value (round binary32 false a b) (c * 2 ^ 149) value ∙ rw (z, mul-div-cancel c (pow-pos 149)) refl
+      bits-of (round binary32 false a b) (c * 2 ^ 149) value ∙ rw (z, mul-div-cancel c (pow-pos 149)) refl
 
 -- ---- the sum with a whole number k, and its rounding
 

@@ -2,19 +2,15 @@
 use Prim.Native.Nat.{ℕ, zero, suc, _+_, _*_, _/_, _%_, _^_, _≤_, _<_}
 use mathlib.Core.Bool.{true, false, _||_}
 use mathlib.Core.List.{List}
-use mathlib.Core.Path.{_≡_, refl, sym, ap, _∙_, subst}
+use mathlib.Core.Path.{_≡_, refl, sym, ap, _∙_}
 use native.Mathlib.Omega.{arith}
 use native.Mathlib.Numerals.{add-one}
 use native.Mathlib.Nat.{mul-le-mul-right}
-use lib.Dec.{T, eqb}
 use lib.ListN.{length, getD}
 use lib.Seq.{sets}
 use lib.Pow.{pow-pos}
 use lib.IntN.{pos}
-use lib.Ieee.{Float, fin, add, ne, isNan, ofBits, binary32}
-use lib.Ieee.Bits.{is-false}
-use lib.Ieee.Compare.{differs-from-itself}
-use borrow.Author.Tests.{eqb-true, not-false}
+use lib.Ieee.{Float, fin, add, ofBits, binary32}
 use Rattle.words.specs.Bytes.{f32At, floatBytes}
 use Rattle.words.specs.Digits.{join}
 use Rattle.words.specs.Floats.{missing}
@@ -23,9 +19,8 @@ use Rattle.words.specs.Lists.{joined}
 use Rattle.words.specs.Refusals.{badLength}
 use Rattle.words.proofs.ByteLaws.{length-floatBytes, sets-append}
 use Rattle.words.proofs.DigitLaws.{join-ext}
-use Rattle.words.proofs.FloatLaws.{same-no-nan}
 use Rattle.words.proofs.ListLaws.{length-tabulate, tabulate-at, joined-more, length-joined, filled}
-use Rattle.words.proofs.RefusalLaws.{neither}
+use Rattle.words.proofs.RefusalLaws.{neither, length-is}
 use Rattle.digits.specs.Digits.{isWidth, levels, top, perByte, packedSize, packedByte, packed}
 use Rattle.digits.proofs.DigitLaws.{by-width, digit-from, full-byte, last-byte}
 use Rattle.scalar.specs.Code.{quotient, codeAt, codesOf, scalarCode}
@@ -35,17 +30,13 @@ use Rattle.scalar.proofs.RoundLaws.{code-le}
 
 -- ---- buffers that no test refuses
 
-right-length : (s : List ℕ) (n : ℕ) → badLength s n ≡ false → length s ≡ n
-unfolding badLength
-right-length s n h = eqb-true (length s) n (not-false (eqb (length s) n) h)
-
 pub long-vectors : (dims : ℕ) (v lo hi : List ℕ) → badVectors dims v lo hi ≡ false
     → (length v ≡ 4 * dims) × (length lo ≡ 4 * dims) × (length hi ≡ 4 * dims)
 unfolding badVectors
 long-vectors dims v lo hi h =
     let p = neither (badLength v (4 * dims) || badLength lo (4 * dims)) (badLength hi (4 * dims)) h in
     let q = neither (badLength v (4 * dims)) (badLength lo (4 * dims)) (p .0) in
-    (right-length v (4 * dims) (q .0), right-length lo (4 * dims) (q .1), right-length hi (4 * dims) (p .1))
+    (length-is v (4 * dims) (q .0), length-is lo (4 * dims) (q .1), length-is hi (4 * dims) (p .1))
 
 pub fine : (dims : ℕ) (v lo hi : List ℕ) → badVectors dims v lo hi ≡ false → anyMissing dims v lo hi ≡ false → Fine dims v lo hi
 unfolding anyMissing
@@ -157,12 +148,3 @@ bits-fit w i h l = by-width (λ w. i * w + w ≤ 0x8_0000) (omega arith) (omega 
 
 pub rows-fit : (w i : ℕ) → isWidth w ≡ true → i ≤ mostScalarDims → i * levels w + levels w ≤ 0x100_0000
 rows-fit w i h l = by-width (λ w. i * levels w + levels w ≤ 0x100_0000) (omega arith) (omega arith) (omega arith) (omega arith) w h
-
--- ---- what a float's test against itself tells
-
-pub nan-itself : (x : Float) → ne x x ≡ true → isNan x ≡ true
-unfolding isNan
-nan-itself x e = rw (differs-from-itself x (subst T (sym e) tt)) refl
-
-pub not-nan-itself : (x : Float) → ne x x ≡ false → isNan x ≡ false
-not-nan-itself x e = is-false (isNan x) (same-no-nan x e)

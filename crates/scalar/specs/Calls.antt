@@ -37,13 +37,19 @@ pub record Fine (dims : ℕ) (vector lo hi : List ℕ) : Type 0 where
   pub lo-there : missing dims lo ≡ false
   pub hi-there : missing dims hi ≡ false
 
+-- BAD_LENGTH, MISSING, BAD_VALUE of a call over vectors: `other` is that the buffer that is written isn't of its length, `form` that
+-- the metric is none
+unfoldable pub vectorsNumber : ℕ → List ℕ → List ℕ → List ℕ → Bool → Bool → ℕ
+vectorsNumber dims vector lo hi other form =
+    cond (badVectors dims vector lo hi || other) 3
+    (cond (anyMissing dims vector lo hi) 4
+    (cond (aboveMax dims lo hi || form) 5 0))
+
 unfoldable pub encodeNumber : ℕ → ℕ → List ℕ → List ℕ → List ℕ → List ℕ → ℕ
 encodeNumber dims bits vector lo hi out =
     cond (badDims mostScalarDims dims) 1
     (cond (not (isWidth bits)) 2
-    (cond (badVectors dims vector lo hi || badLength out (packedSize bits dims)) 3
-    (cond (anyMissing dims vector lo hi) 4
-    (cond (aboveMax dims lo hi) 5 0))))
+    (vectorsNumber dims vector lo hi (badLength out (packedSize bits dims)) false))
 
 unfoldable pub encodeAnswer : ℕ → ℕ → List ℕ → List ℕ → List ℕ → List ℕ → ℕ × List ℕ
 encodeAnswer dims bits vector lo hi out =
@@ -53,9 +59,7 @@ unfoldable pub tableNumber : ℕ → ℕ → ℕ → List ℕ → List ℕ → L
 tableNumber metric dims bits vector lo hi out =
     cond (badDims mostScalarDims dims) 1
     (cond (not (isWidth bits)) 2
-    (cond (badVectors dims vector lo hi || badLength out (tableSize bits dims)) 3
-    (cond (anyMissing dims vector lo hi) 4
-    (cond (aboveMax dims lo hi || badForm metric) 5 0))))
+    (vectorsNumber dims vector lo hi (badLength out (tableSize bits dims)) (badForm metric)))
 
 unfoldable pub tableAnswer : ℕ → ℕ → ℕ → List ℕ → List ℕ → List ℕ → List ℕ → ℕ × List ℕ
 tableAnswer metric dims bits vector lo hi out =

@@ -51,9 +51,9 @@ fn code_at(top: u8, dims: usize, vector: &[u8], lo: &[u8], hi: &[u8], i: usize) 
     requires { ⌜ Fine dims (now vector) (now lo) (now hi) ⌝ ∗ ⌜ i < dims ⌝ }
     ensures { λ r. ⌜ r ≡ codeAt top (now (vector .entry)) (now (lo .entry)) (now (hi .entry)) i ⌝ }
 {
-    let x = words::finite_at(vector, i);
-    let a = words::finite_at(lo, i);
-    let b = words::finite_at(hi, i);
+    let x = words::number_at(vector, i);
+    let a = words::number_at(lo, i);
+    let b = words::number_at(hi, i);
     code_of((x - a) / del_of(top, a, b), top)
 }
 

@@ -27,17 +27,10 @@ pub fn scalar_encode(
         return words::BAD_WIDTH;
     };
     let n = dims as usize;
-    if tests::bad_vectors(n, vector, min, max) {
-        return words::BAD_LENGTH;
-    }
-    if code.len() != digits::parts::packed_size(w, n) {
-        return words::BAD_LENGTH;
-    }
-    if tests::any_missing(n, vector, min, max) {
-        return words::MISSING;
-    }
-    if tests::above_max(n, min, max) {
-        return words::BAD_VALUE;
+    let size = digits::parts::packed_size(w, n);
+    let r = tests::refusal(n, vector, min, max, code.len() != size, false);
+    if r != 0 {
+        return r;
     }
     code::encode(w, n, vector, min, max, code);
     words::ACCEPTED
@@ -62,20 +55,11 @@ pub fn scalar_table(
         return words::BAD_WIDTH;
     };
     let n = dims as usize;
-    if tests::bad_vectors(n, vector, min, max) {
-        return words::BAD_LENGTH;
-    }
-    if table.len() != table::table_size(w, n) {
-        return words::BAD_LENGTH;
-    }
-    if tests::any_missing(n, vector, min, max) {
-        return words::MISSING;
-    }
-    if tests::above_max(n, min, max) {
-        return words::BAD_VALUE;
-    }
-    if words::bad_form(metric) {
-        return words::BAD_VALUE;
+    let size = table::table_size(w, n);
+    let form = words::bad_form(metric);
+    let r = tests::refusal(n, vector, min, max, table.len() != size, form);
+    if r != 0 {
+        return r;
     }
     table::fill(words::metric_of(metric), w, n, vector, min, max, table);
     words::ACCEPTED

@@ -68,9 +68,9 @@ fn fill_rows(
     let mut i = 0usize;
     let mut at = 0usize;
     while i < dims {
-        let x = words::finite_at(vector, i);
-        let a = words::finite_at(lo, i);
-        let b = words::finite_at(hi, i);
+        let x = words::number_at(vector, i);
+        let a = words::number_at(lo, i);
+        let b = words::number_at(hi, i);
         put_row(m, n, x, a, super::code::del_of(top, a, b), out, at);
         at += 4 * (n as usize);
         i += 1;

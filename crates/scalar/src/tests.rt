@@ -1,16 +1,16 @@
-// The tests that the calls share.
+// The tests that the calls over vectors share.
 ghost use mathlib.Core.Path.{_≡_};
 ghost use mathlib.Core.Bool.{true, false, cond};
 ghost use Prim.Native.Nat.{_+_, _*_, _≤_};
 ghost use lib.ListN.{length};
-ghost use lib.Ieee.{lt};
+ghost use lib.Ieee.{isNan, lt};
 ghost use Rattle.words.specs.Bytes.{f32At};
-ghost use Rattle.words.specs.Floats.{notFinite, missing};
+ghost use Rattle.words.specs.Floats.{missing};
 ghost use Rattle.words.specs.Limits.{mostScalarDims};
-ghost use Rattle.scalar.specs.Calls.{badVectors, anyMissing, aboveMax};
+ghost use Rattle.scalar.specs.Calls.{badVectors, anyMissing, aboveMax, vectorsNumber};
 
 // Whether a vector is of another length than n floats.
-pub fn bad_vectors(n: usize, vector: &[u8], lo: &[u8], hi: &[u8]) -> bool
+fn bad_vectors(n: usize, vector: &[u8], lo: &[u8], hi: &[u8]) -> bool
     requires { ⌜ n ≤ mostScalarDims ⌝ }
     ensures { λ r. ⌜ r ≡ badVectors n (now (vector .entry)) (now (lo .entry)) (now (hi .entry)) ⌝ }
 {
@@ -24,7 +24,7 @@ pub fn bad_vectors(n: usize, vector: &[u8], lo: &[u8], hi: &[u8]) -> bool
 }
 
 // Whether a NaN or an infinity stands in one of them.
-pub fn any_missing(n: usize, vector: &[u8], lo: &[u8], hi: &[u8]) -> bool
+fn any_missing(n: usize, vector: &[u8], lo: &[u8], hi: &[u8]) -> bool
     requires { ⌜ (n ≤ mostScalarDims) × (badVectors n (now vector) (now lo) (now hi) ≡ false) ⌝ }
     ensures { λ r. ⌜ r ≡ anyMissing n (now (vector .entry)) (now (lo .entry)) (now (hi .entry)) ⌝ }
 {
@@ -39,17 +39,19 @@ pub fn any_missing(n: usize, vector: &[u8], lo: &[u8], hi: &[u8]) -> bool
 
 // 1 where min is above max at place i, else 0.
 fn above_at(lo: &[u8], hi: &[u8], i: usize) -> u32
-    requires { ⌜ (4 * i + 4 ≤ length (now lo)) × (4 * i + 4 ≤ length (now hi)) × (notFinite (f32At (now lo) i) ≡ false) × (notFinite (f32At (now hi) i) ≡ false) ⌝ }
+    requires { ⌜ (4 * i + 4 ≤ length (now lo)) × (4 * i + 4 ≤ length (now hi))
+        × (isNan (f32At (now lo) i) ≡ false) × (isNan (f32At (now hi) i) ≡ false) ⌝ }
     ensures { λ r. ⌜ (r ≡ cond (lt (f32At (now (hi .entry)) i) (f32At (now (lo .entry)) i)) 1 0) × (r ≤ 1) ⌝ }
 {
-    let a = words::finite_at(lo, i);
-    let b = words::finite_at(hi, i);
+    let a = words::number_at(lo, i);
+    let b = words::number_at(hi, i);
     if b < a { 1 } else { 0 }
 }
 
 // Whether min is above max somewhere. It counts and doesn't leave early, so that it goes by vectors.
-pub fn above_max(n: usize, lo: &[u8], hi: &[u8]) -> bool
-    requires { ⌜ (n ≤ mostScalarDims) × (4 * n ≤ length (now lo)) × (4 * n ≤ length (now hi)) × (missing n (now lo) ≡ false) × (missing n (now hi) ≡ false) ⌝ }
+fn above_max(n: usize, lo: &[u8], hi: &[u8]) -> bool
+    requires { ⌜ (n ≤ mostScalarDims) × (4 * n ≤ length (now lo)) × (4 * n ≤ length (now hi))
+        × (missing n (now lo) ≡ false) × (missing n (now hi) ≡ false) ⌝ }
     ensures { λ r. ⌜ r ≡ aboveMax n (now (lo .entry)) (now (hi .entry)) ⌝ }
 {
     let mut bad: u32 = 0;
@@ -59,4 +61,27 @@ pub fn above_max(n: usize, lo: &[u8], hi: &[u8]) -> bool
         i += 1;
     }
     0 < bad
+}
+
+// The refusals 3 to 5 of a call over vectors, whose dims and width are judged; 0 where there is none.
+pub fn refusal(n: usize, vector: &[u8], lo: &[u8], hi: &[u8], other: bool, form: bool) -> u32
+    requires { ⌜ n ≤ mostScalarDims ⌝ }
+    ensures { λ r. ⌜ r ≡ vectorsNumber n (now (vector .entry)) (now (lo .entry)) (now (hi .entry)) other form ⌝ }
+{
+    if bad_vectors(n, vector, lo, hi) {
+        return words::BAD_LENGTH;
+    }
+    if other {
+        return words::BAD_LENGTH;
+    }
+    if any_missing(n, vector, lo, hi) {
+        return words::MISSING;
+    }
+    if above_max(n, lo, hi) {
+        return words::BAD_VALUE;
+    }
+    if form {
+        return words::BAD_VALUE;
+    }
+    words::ACCEPTED
 }

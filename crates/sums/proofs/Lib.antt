@@ -1,6 +1,5 @@
 pub mod PlainLaws
 pub mod GroupLaws
-pub mod QueryLaws
 pub mod PlaneLaws
 pub mod TableLaws
 pub mod CallLaws

@@ -1,25 +1,20 @@
 -- The plain sum: it goes by the bits alone, and its bound. Assumes nothing.
-use mathlib.Core.Path.{_≡_, sym, ap}
+use mathlib.Core.Path.{_≡_, ap}
 use Prim.Native.Nat.{ℕ, _*_, _<_, _≤_}
 use mathlib.Core.List.{List}
 use native.Mathlib.Omega.{arith}
-use native.Mathlib.Nat.{mul-le-mul, mul-one}
+use native.Mathlib.Nat.{mul-le-mul}
 use lib.ListN.{length, getD}
 use Rattle.words.specs.Limits.{topCode, mostSum}
 use Rattle.words.specs.Sums.{sumTo}
 use Rattle.words.proofs.SumLaws.{sum-ext, sum-le}
-use Rattle.sums.specs.Sums.{plainSum, querySum}
+use Rattle.sums.specs.Sums.{plainSum}
 use Rattle.sums.specs.Held.{Query}
 
 pub plain-ext : (qs : List ℕ) (b b′ : ℕ → ℕ) → ((d : ℕ) → d < length qs → b d ≡ b′ d) → plainSum qs b ≡ plainSum qs b′
 unfolding plainSum
 plain-ext qs b b′ h =
     sum-ext (length qs) (λ d. getD qs d 0 * b d) (λ d. getD qs d 0 * b′ d) (λ d l. ap (λ (x : ℕ). getD qs d 0 * x) (h d l))
-
--- the sum of all codes is the plain sum with every bit set
-pub query-plain : (qs : List ℕ) → querySum qs ≡ plainSum qs (λ d. 1)
-unfolding querySum plainSum
-query-plain qs = sum-ext (length qs) (λ d. getD qs d 0) (λ d. getD qs d 0 * 1) (λ d _. sym (mul-one (getD qs d 0)))
 
 pub plain-le : (qs : List ℕ) (b : ℕ → ℕ) → Query qs → ((d : ℕ) → b d < 2) → plainSum qs b ≤ mostSum
 unfolding plainSum
@@ -31,6 +26,3 @@ plain-le qs b q two =
     term d =
         let one : b d ≤ 1 = omega (arith, two d) in
         mul-le-mul (q .small d) one
-
-pub query-le : (qs : List ℕ) → Query qs → querySum qs ≤ mostSum
-query-le qs q = omega (arith, query-plain qs, plain-le qs (λ d. 1) q (λ d. omega arith))

@@ -3,18 +3,19 @@ use Prim.Native.Nat.{ℕ}
 use mathlib.Core.Bool.{Bool, _||_, cond}
 use mathlib.Core.List.{List}
 use Rattle.words.specs.Bytes.{bytesOf, wordsOf}
-use Rattle.words.specs.Limits.{mostDims}
+use Rattle.words.specs.Limits.{mostDims, topCode}
+use Rattle.words.specs.Lists.{anyAbove}
 use Rattle.words.specs.Refusals.{answer, badDims, badLength}
 use Rattle.code.specs.Code.{codeSize, codeBit}
 use Rattle.block.specs.Block.{blockSize, laneBit}
-use Rattle.sums.specs.Sums.{aboveTop, plainSum, querySum}
+use Rattle.sums.specs.Sums.{plainSum, querySum}
 
--- BAD_DIMS, BAD_LENGTH, BAD_VALUE: `other` is that a buffer besides the query isn't of its length
+-- BAD_DIMS, BAD_LENGTH, BAD_VALUE (a query code above 15): `other` is that a buffer besides the query isn't of its length
 unfoldable pub sumNumber : ℕ → List ℕ → Bool → ℕ
 sumNumber dims query other =
     cond (badDims mostDims dims) 1
     (cond (badLength query dims || other) 3
-    (cond (aboveTop query) 5 0))
+    (cond (anyAbove topCode query) 5 0))
 
 unfoldable pub querySumAnswer : ℕ → List ℕ → List ℕ → ℕ × List ℕ
 querySumAnswer dims query out = answer (sumNumber dims query (badLength out 4)) out (bytesOf 4 (querySum query))

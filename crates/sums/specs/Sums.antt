@@ -1,22 +1,15 @@
 -- The paper's module 6, the sums: the plain sum, and the three ways to count it.
 use Prim.Native.Nat.{ℕ, _+_, _*_, _/_, _%_, _^_, min}
-use mathlib.Core.Bool.{Bool}
 use mathlib.Core.List.{List}
-use lib.Dec.{ltb}
 use lib.ListN.{length, getD}
 use lib.Bits.{bitAnd}
 use lib.Count.{ones}
 use Rattle.words.specs.Bytes.{numAt}
 use Rattle.words.specs.Digits.{bit, join}
-use Rattle.words.specs.Limits.{topCode}
-use Rattle.words.specs.Lists.{anyBelow, tabulate}
+use Rattle.words.specs.Lists.{tabulate}
 use Rattle.words.specs.Sums.{sumTo}
 use Rattle.code.specs.Code.{codeWords}
 use Rattle.block.specs.Block.{blockGroups}
-
--- BAD_VALUE of query codes: one is above 15
-unfoldable pub aboveTop : List ℕ → Bool
-aboveTop qs = anyBelow (length qs) (λ i. ltb topCode (getD qs i 0))
 
 -- the plain sum: the query codes qs at the dimensions whose bit b is set
 unfoldable pub plainSum : List ℕ → (ℕ → ℕ) → ℕ

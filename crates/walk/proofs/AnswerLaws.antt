@@ -14,12 +14,12 @@ use Rattle.words.specs.Lists.{anyBelow}
 use Rattle.words.specs.Metrics.{metricOf}
 use Rattle.words.specs.Refusals.{after, badLength, badForm}
 use Rattle.words.proofs.ListLaws.{any-none}
-use Rattle.words.proofs.RefusalLaws.{no-row, neither, after-refused, else-first, else-second}
+use Rattle.words.proofs.RefusalLaws.{length-is, no-row, neither, after-refused, else-first, else-second}
 use Rattle.words.proofs.WordsLaws.{words-zero}
 use Rattle.sums.specs.Held as held
 use Rattle.estimate.specs.declared.Query.{Query}
 use Rattle.estimate.specs.Calls.{queryNumber}
-use Rattle.estimate.proofs.CallLaws.{accepted, length-is}
+use Rattle.estimate.proofs.CallLaws.{accepted}
 use Rattle.walk.proofs.WalkLaws.{range-inside}
 use Rattle.walk.specs.Walk.{layoutOf, recordsSize, badRecords, badLists, badLengths, outOfRange, rangeNumber, boundOf, boundWords, walkNumber, walkAnswer}
 

@@ -12,6 +12,7 @@ use lib.Seq.{drop-cons, set-at, sets, sets-eq, length-sets, take-take, take-all,
 use lib.Ieee.{isNan, fits, toBits, binary32}
 use borrow.Author.Tests.{lt-ltb, ltb-false}
 use Rattle.words.specs.Bytes.{wordsOf, f32At}
+use Rattle.words.specs.Floats.{anyNan}
 use Rattle.words.specs.Lists.{anyBelow}
 use Rattle.words.specs.declared.Metric.{Metric}
 use Rattle.words.proofs.ByteLaws.{take-sets}
@@ -100,8 +101,8 @@ bound-fits Blocks m v qs rs i = estimate-fits LowerBound m v _ _ _
 
 -- they are read back from what was written
 pub nans-back : (l : Layout) (m : Metric) (v : Query) (qs rs : List ℕ) (start c : ℕ) (bs : List ℕ) → bs ≡ boundWords l m v qs rs start c
-    → anyBelow c (λ j. isNan (f32At bs j)) ≡ anyBelow c (λ j. isNan (boundOf l m v qs rs (start + j)))
-unfolding boundWords
+    → anyNan c bs ≡ anyBelow c (λ j. isNan (boundOf l m v qs rs (start + j)))
+unfolding boundWords anyNan
 nans-back l m v qs rs start c bs e =
     let size = ap length e ∙ length-wordsOf c (λ j. toBits binary32 (boundOf l m v qs rs (start + j))) in
     let all = take-all (4 * c) bs (omega arith) ∙ e in

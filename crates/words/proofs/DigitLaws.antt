@@ -48,6 +48,14 @@ join-lt w zero f h = rw (join-none w f, mul-zero w) (omega arith)
 join-lt w (suc n) f h =
     rw (join-suc w n f, step w n) (omega (arith, join-lt w n f h, mul-le-mul-right (2 ^ (w * n)) (h n)))
 
+-- one digit more, shifted to its place p in a number of m bits: nothing is shifted out, and the sum fits
+pub digit-more : (w m n p x y : ℕ) (f : ℕ → ℕ) → ((j : ℕ) → f j < 2 ^ w) → w * n + w ≤ m → p ≡ w * n → x ≡ join w n f → y ≡ f n
+    → (x + y * 2 ^ p % 2 ^ m ≡ join w (n + 1) f) × (x + y * 2 ^ p % 2 ^ m < 2 ^ m)
+digit-more w m n p x y f h l e ex ey = (sum, rw sum (lt-of-lt-of-le (join-lt w (n + 1) f h) (pow-mono {i = w * (n + 1)} {j = m} (omega arith))))
+  where
+    sum : x + y * 2 ^ p % 2 ^ m ≡ join w (n + 1) f
+    sum = rw (e, ex, ey, shl-exact w (w * n) m (h n) (omega arith)) (sym (join-more w n f))
+
 split : (w j d : ℕ) → 2 ^ (w * (suc j + d)) ≡ 2 ^ (w * d) * 2 ^ w * 2 ^ (w * j)
 split w j d =
     let e : w * (suc j + d) ≡ w * d + w + w * j = omega arith in
@@ -116,14 +124,6 @@ bits-lt n f h = subst (λ (k : ℕ). join 1 n f < 2 ^ k) (one-mul n) (join-lt 1 
 pub bit-join : (n i : ℕ) (f : ℕ → ℕ) → ((i : ℕ) → f i < 2) → i < n → bit (join 1 n f) i ≡ f i
 unfolding bit
 bit-join n i f h l = ap (λ (k : ℕ). join 1 n f / 2 ^ k % 2) (sym (one-mul i)) ∙ join-digit 1 n i f h l
-
--- one digit more, shifted to its place in a word
-pub bits-more : (f : ℕ → ℕ) → ((i : ℕ) → f i < 2) → (i : ℕ) → i < 64 → join 1 i f + f i * 2 ^ i % 2 ^ 64 ≡ join 1 (i + 1) f
-bits-more f h i l =
-    ap (λ (x : ℕ). join 1 i f + x) (shl-exact 1 i 64 (h i) (omega arith) ∙ sym (at-one f i)) ∙ sym (join-more 1 i f)
-
-pub bits-fit : (f : ℕ → ℕ) → ((i : ℕ) → f i < 2) → (i : ℕ) → i ≤ 64 → join 1 i f < 2 ^ 64
-bits-fit f h i l = lt-of-lt-of-le (bits-lt i f h) (pow-mono l)
 
 -- a number of 8 digits is two of 4
 pub join-halves : (f : ℕ → ℕ) → join 1 8 f ≡ join 1 4 f + 16 * join 1 4 (λ i. f (4 + i))
@@ -230,3 +230,19 @@ join-kept (suc n) most at y b h =
     outside l =
         ap₂ (λ (k x : ℕ). cut k + x * 2 ^ n) (min-eq-right (omega arith)) (kept-out most b (at + n) l)
         ∙ ap (λ (x : ℕ). cut (most - at) + x) (zero-mul (2 ^ n)) ∙ add-zero (cut (most - at)) ∙ sym (ap cut (min-eq-right (omega arith)))
+
+-- n digits that are those of y below 2 ^ n, where the digits from dimension most on are 0, are y
+pub join-whole : (n most at y : ℕ) (b : ℕ → ℕ) → y < 2 ^ n → ((j : ℕ) → j < n → b (at + j) ≡ bit y j)
+    → ((j : ℕ) → j < n → most ≤ at + j → b (at + j) ≡ 0) → join 1 n (λ j. kept most b (at + j)) ≡ y
+join-whole n most at y b small digit pad =
+    join-ext 1 n (λ j. kept most b (at + j)) (λ j. kept (at + n) b (at + j)) (λ j l. ⊎-elim (inside j l) (outside j l) (lt-or-ge (at + j) most))
+    ∙ join-kept n (at + n) at y b digit ∙ ap (λ (k : ℕ). y % 2 ^ k) (min-eq-left (omega arith)) ∙ mod-eq-of-lt small
+  where
+    whole : (j : ℕ) → j < n → kept (at + n) b (at + j) ≡ b (at + j)
+    whole j l = kept-in (at + n) b (at + j) (omega arith)
+
+    inside : (j : ℕ) → j < n → at + j < most → kept most b (at + j) ≡ kept (at + n) b (at + j)
+    inside j l h = kept-in most b (at + j) h ∙ sym (whole j l)
+
+    outside : (j : ℕ) → j < n → most ≤ at + j → kept most b (at + j) ≡ kept (at + n) b (at + j)
+    outside j l h = kept-out most b (at + j) h ∙ sym (whole j l ∙ pad j l h)

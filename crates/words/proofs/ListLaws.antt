@@ -1,7 +1,7 @@
--- Laws of specs/Lists: the loops that count the places where a test holds, lists put together place by place, and the loops that
+-- Laws of specs/Lists: the loops that count the places where a test holds or take the largest number, lists put together place by place, and the loops that
 -- fill a buffer. Assumes nothing.
-use Prim.Native.Nat.{ℕ, zero, suc, _+_, _-_, _*_, _<_, _≤_}
-use mathlib.Core.Bool.{Bool, true, false, _||_, cond}
+use Prim.Native.Nat.{ℕ, zero, suc, _+_, _-_, _*_, _<_, _≤_, zero-le, max}
+use mathlib.Core.Bool.{Bool, true, false, _||_, cond, or-true, or-false}
 use mathlib.Core.List.{List, [], _∷_, _++_, append-assoc, append-nil}
 use mathlib.Core.Path.{_≡_, refl, sym, ap, _∙_}
 use mathlib.Core.Logic.{inl, inr}
@@ -9,11 +9,11 @@ use native.Mathlib.Omega.{arith}
 use native.Mathlib.Numerals.{add-one}
 use native.Mathlib.Nat.{eq-or-lt-of-le, not-suc-le-zero, add-zero, add-suc, mul-comm, mul-one}
 use lib.Dec.{ltb}
-use lib.ListN.{length, getD, set, take, drop, length-append, List·getD-append}
+use lib.ListN.{length, getD, set, take, drop, length-append, List·getD-append, List·getD-eq-default}
 use lib.Seq.{getD-append-add, getD-set-same, getD-set-other, ext-getD, take-at, drop-at}
 use borrow.Author.Count.{below-more}
-use borrow.Author.Tests.{lt-ltb}
-use Rattle.words.specs.Lists.{anyBelow, joined, tabulate}
+use borrow.Author.Tests.{lt-ltb, le-ltb, ltb-true, ltb-false}
+use Rattle.words.specs.Lists.{anyBelow, anyAbove, joined, tabulate}
 use Rattle.words.proofs.RefusalLaws.{neither}
 
 -- ---- some place below n
@@ -25,15 +25,7 @@ any-more p i bad x h e = rw (add-one i, sym h, e) (go (p i))
   where
     go : (b : Bool) → ltb 0 (bad + cond b 1 0) ≡ (ltb 0 bad || b)
     go true = lt-ltb 0 (bad + 1) (omega arith) ∙ sym (or-true (ltb 0 bad))
-      where
-        or-true : (b : Bool) → (b || true) ≡ true
-        or-true true = refl
-        or-true false = refl
     go false = ap (λ (z : ℕ). ltb 0 z) (add-zero bad) ∙ sym (or-false (ltb 0 bad))
-      where
-        or-false : (b : Bool) → (b || false) ≡ b
-        or-false true = refl
-        or-false false = refl
 
 pub any-none : (p : ℕ → Bool) → anyBelow 0 p ≡ false
 unfolding anyBelow
@@ -54,6 +46,32 @@ pub any-ext : (p q : ℕ → Bool) (n : ℕ) → ((i : ℕ) → i < n → p i �
 unfolding anyBelow
 any-ext p q zero h = refl
 any-ext p q (suc n) h = rw (any-ext p q n (λ i l. h i (omega arith)), h n (omega arith)) refl
+
+-- ---- numbers above a top
+
+-- a loop that takes the largest, from 0 on
+pub above-none : (t : ℕ) (s : List ℕ) → ltb t 0 ≡ anyBelow 0 (λ j. ltb t (getD s j 0))
+above-none t s = le-ltb t 0 zero-le ∙ sym (any-none _)
+
+-- and a turn of it
+pub above-more : (t : ℕ) (s : List ℕ) (i m x : ℕ) → ltb t m ≡ anyBelow i (λ j. ltb t (getD s j 0)) → x ≡ max m (getD s i 0)
+    → ltb t x ≡ anyBelow (i + 1) (λ j. ltb t (getD s j 0))
+unfolding anyBelow
+above-more t s i m x h e = rw (add-one i, sym h, e) (go m (getD s i 0) (ltb t m) (ltb t (getD s i 0)) refl refl)
+  where
+    go : (a b : ℕ) (p q : Bool) → ltb t a ≡ p → ltb t b ≡ q → ltb t (max a b) ≡ (p || q)
+    go a b true q e f = let l : t < a = ltb-true t a e in lt-ltb t (max a b) (omega arith)
+    go a b false true e f = let l : t < b = ltb-true t b f in lt-ltb t (max a b) (omega arith)
+    go a b false false e f = let k : a ≤ t = ltb-false t a e in let l : b ≤ t = ltb-false t b f in le-ltb t (max a b) (omega arith)
+
+-- where none is above it, each is at most the top, and so are the zeros past the last
+pub none-above : (t : ℕ) (s : List ℕ) → anyAbove t s ≡ false → (i : ℕ) → getD s i 0 ≤ t
+unfolding anyAbove
+none-above t s h i = go (ltb i (length s)) refl
+  where
+    go : (b : Bool) → ltb i (length s) ≡ b → getD s i 0 ≤ t
+    go true e = ltb-false t (getD s i 0) (none-at (λ i. ltb t (getD s i 0)) (length s) h i (ltb-true i (length s) e))
+    go false e = rw (List·getD-eq-default s 0 (ltb-false i (length s) e)) zero-le
 
 -- ---- lists put together
 

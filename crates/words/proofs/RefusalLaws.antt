@@ -2,12 +2,14 @@
 use Prim.Native.Nat.{ℕ, zero, suc, _≤_}
 use lib.Dec.{eqb, ltb}
 use lib.ListN.{length}
-use borrow.Author.Tests.{ltb-false, eq-eqb, ne-eqb}
+use borrow.Author.Tests.{ltb-false, eqb-true, eq-eqb, ne-eqb, not-false}
 use mathlib.Core.Bool.{Bool, true, false, _&&_, _||_, cond}
 use mathlib.Core.List.{List}
-use mathlib.Core.Path.{_≡_, refl}
+use mathlib.Core.Path.{_≡_, refl, sym}
 use native.Mathlib.Omega.{arith}
-use Rattle.words.specs.Refusals.{after, answer, orElse, badDims, badLength}
+use Rattle.words.specs.Bytes.{bytesOf}
+use Rattle.words.specs.Limits.{mostDims}
+use Rattle.words.specs.Refusals.{after, answer, orElse, badDims, badLength, sizeNumber, sizeAnswer}
 
 -- ---- tests
 
@@ -48,6 +50,10 @@ pub unsized : (s : List ℕ) (n : ℕ) → (length s ≡ n → ⊥) → badLengt
 unfolding badLength
 unsized s n h = rw (ne-eqb (length s) n h)
 
+pub length-is : (s : List ℕ) (n : ℕ) → badLength s n ≡ false → length s ≡ n
+unfolding badLength
+length-is s n e = eqb-true (length s) n (not-false _ e)
+
 -- ---- numbers
 
 pub else-first : (a b : ℕ) → (a ≡ 0 → ⊥) → orElse a b ≡ a
@@ -78,3 +84,18 @@ accepts n old new now e f = rw (e, f) refl
 pub refuses : (n m : ℕ) (old new : List ℕ) → n ≡ suc m → (suc m, old) ≡ answer n old new
 unfolding answer after
 refuses n m old new e = rw e refl
+
+-- a refusal that an earlier test gave
+pub refuses-as : (n r : ℕ) (old new : List ℕ) → r ≡ n → (r ≡ 0 → ⊥) → (r, old) ≡ answer n old new
+unfolding answer
+refuses-as n r old new e h = rw (sym e, after-refused r old new h) refl
+
+-- a call that gives a size, at each return
+module _ (dims size : ℕ) (out : List ℕ) where
+  pub size-dims : badDims mostDims dims ≡ true → (1, out) ≡ sizeAnswer dims size out
+  unfolding sizeAnswer sizeNumber
+  size-dims h = refuses _ 0 out _ (rw h refl)
+
+  pub size-judged : badDims mostDims dims ≡ false → answer (cond (badLength out 4) 3 0) out (bytesOf 4 size) ≡ sizeAnswer dims size out
+  unfolding sizeAnswer sizeNumber
+  size-judged h = rw h refl

@@ -2,11 +2,17 @@
 use Prim.Native.Nat.{ℕ, zero, suc}
 use mathlib.Core.Bool.{Bool, false, _||_}
 use mathlib.Core.List.{List, [], _∷_, _++_}
+use lib.Dec.{ltb}
+use lib.ListN.{length, getD}
 
 -- p holds at some place below n
 unfoldable pub anyBelow : ℕ → (ℕ → Bool) → Bool
 anyBelow zero p = false
 anyBelow (suc n) p = anyBelow n p || p n
+
+-- a number of the list is above top
+unfoldable pub anyAbove : ℕ → List ℕ → Bool
+anyAbove top s = anyBelow (length s) (λ i. ltb top (getD s i 0))
 
 -- f 0 ++ f 1 ++ .. ++ f (n - 1)
 unfoldable pub joined : ℕ → (ℕ → List ℕ) → List ℕ

@@ -5,10 +5,6 @@ use lib.Dec.{eqb}
 use Rattle.words.specs.declared.Metric.{Metric}
 use Rattle.words.specs.declared.Metric.the-variants.{L2, Dot}
 
-abbrev pub metricNumber : Metric → ℕ
-metricNumber L2 = 1
-metricNumber Dot = 2
-
 -- the metric of a number that is one's
 unfoldable pub metricOf : ℕ → Metric
 metricOf n = cond (eqb n 1) L2 Dot

@@ -1,14 +1,17 @@
 // What every module speaks: numbers and floats in little-endian bytes, the refusal numbers, the limits, the metric.
 ghost use mathlib.Core.Path.{_≡_};
-ghost use Prim.Native.Nat.{_+_, _*_, _≤_, _<_};
+ghost use Prim.Native.Nat.{_+_, _*_, _%_, _^_, _≤_, _<_, max};
+ghost use lib.Dec.{leb};
+ghost use lib.Ieee.{isNan, nanBits, binary32};
 ghost use lib.ListN.{length, getD, set};
 ghost use lib.Seq.{sets};
-ghost use mathlib.Core.Bool.{true, false, cond};
+ghost use mathlib.Core.Bool.{false, cond};
 ghost use Rattle.words.specs.Bytes.{numAt, bytesOf, f32At, floatBytes};
-ghost use Rattle.words.specs.Floats.{notFinite, missing};
+ghost use Rattle.words.specs.Floats.{missing, anyNan};
 ghost use Rattle.words.specs.Limits.{mostScalarDims};
+ghost use Rattle.words.specs.Lists.{anyBelow, anyAbove};
 ghost use Rattle.words.specs.Metrics.{metricOf};
-ghost use Rattle.words.specs.Refusals.{badDims, badForm};
+ghost use Rattle.words.specs.Refusals.{answer, badDims, badLength, badForm};
 
 // The paper's refusal numbers, as a call returns them.
 pub const ACCEPTED: u32 = 0;
@@ -36,13 +39,18 @@ pub const MOST_DIMS: u32 = 4369;
 
 pub const MOST_SCALAR_DIMS: u32 = 65535;
 
-pub const TOP_CODE: u8 = 15;
+pub const TOP_CODE: u32 = 15;
 
 pub const MOST_RECORDS: u32 = 1048576;
 
 pub const MOST_PLACES: usize = 4096;
 
 pub const MOST_MARK: u8 = 2;
+
+// The bits of an infinity, and the least of a NaN, their sign dropped.
+const INFINITY: u32 = 0x7F80_0000;
+
+const LEAST_NAN: u32 = INFINITY + 1;
 
 pub enum Metric {
     L2,
@@ -134,41 +142,85 @@ pub fn f32_at(s: &[u8], i: usize) -> f32
     f32::from_bits(n)
 }
 
-// The float of place i where it is finite.
-pub fn finite_at(s: &[u8], i: usize) -> f32
-    requires { ⌜ (4 * i + 4 ≤ length (now s)) × (notFinite (f32At (now s) i) ≡ false) ⌝ }
+// The float of place i where it is no NaN.
+pub fn number_at(s: &[u8], i: usize) -> f32
+    requires { ⌜ (4 * i + 4 ≤ length (now s)) × (isNan (f32At (now s) i) ≡ false) ⌝ }
     ensures { λ r. ⌜ r ≡ f32At (now (s .entry)) i ⌝ }
 {
     f32::from_bits(u32_at(s, 4 * i))
 }
 
-// 1 where the float of place i is a NaN or an infinity, else 0. A mask in place of the quotient would split the load.
-fn not_finite(s: &[u8], i: usize) -> u32
-    requires { ⌜ 4 * i + 4 ≤ length (now s) ⌝ }
-    ensures { λ r. ⌜ (r ≡ cond (notFinite (f32At (now (s .entry)) i)) 1 0) × (r ≤ 1) ⌝ }
+// ---- tests over a buffer. Their loops don't leave early: so they go by vectors.
+
+// 1 where the bits n, their sign dropped, are at least `least`, else 0. A mask in place of the quotient would split the load.
+fn reaches(least: u32, n: u32) -> u32
+    ensures { λ r. ⌜ (r ≡ cond (leb least (n % 0x8000_0000)) 1 0) × (r ≤ 1) ⌝ }
 {
-    let n = u32_at(s, 4 * i);
     let sign = n / 0x8000_0000;
-    if 0x7F80_0000 <= n - sign * 0x8000_0000 {
+    if least <= n - sign * 0x8000_0000 {
         1
     } else {
         0
     }
 }
 
-// Whether one of the first n floats of s is a NaN or an infinity. The loop counts and doesn't leave early: so it goes by vectors.
+// 1 where the bits are a NaN's, else 0.
+pub fn nan_one(n: u32) -> u32
+    ensures { λ r. ⌜ (r ≡ cond (nanBits binary32 n) 1 0) × (r ≤ 1) ⌝ }
+{
+    reaches(LEAST_NAN, n)
+}
+
+// Whether the bits of one of the first n floats of s, their sign dropped, are at least `least`.
+fn any_from(least: u32, s: &[u8], n: usize) -> bool
+    requires { ⌜ (4 * n ≤ length (now s)) × (n ≤ mostScalarDims) ⌝ }
+    ensures { λ r. ⌜ r ≡ anyBelow n (λ i. leb least (numAt 4 (now (s .entry)) (4 * i) % 0x8000_0000)) ⌝ }
+{
+    let mut count: u32 = 0;
+    let mut i = 0usize;
+    while i < n {
+        count += reaches(least, u32_at(s, 4 * i));
+        i += 1;
+    }
+    0 < count
+}
+
+// Whether one of the first n floats of s is a NaN or an infinity.
 pub fn any_missing(s: &[u8], n: usize) -> bool
     requires { ⌜ (4 * n ≤ length (now s)) × (n ≤ mostScalarDims) ⌝ }
     ensures { λ r. ⌜ r ≡ missing n (now (s .entry)) ⌝ }
 {
-    let mut bad: u32 = 0;
+    any_from(INFINITY, s, n)
+}
+
+// Whether one of the first n floats of s is a NaN.
+pub fn any_nan(s: &[u8], n: usize) -> bool
+    requires { ⌜ (4 * n ≤ length (now s)) × (n ≤ mostScalarDims) ⌝ }
+    ensures { λ r. ⌜ r ≡ anyNan n (now (s .entry)) ⌝ }
+{
+    any_from(LEAST_NAN, s, n)
+}
+
+fn larger(a: u8, b: u8) -> u8
+    ensures { λ r. ⌜ r ≡ max a b ⌝ }
+{
+    if a < b { b } else { a }
+}
+
+// Whether a byte of s is above top. The loop takes the largest, in bytes alone.
+pub fn any_above(top: u32, s: &[u8]) -> bool
+    ensures { λ r. ⌜ r ≡ anyAbove top (now (s .entry)) ⌝ }
+{
+    let mut most: u8 = 0;
     let mut i = 0usize;
-    while i < n {
-        bad += not_finite(s, i);
+    while i < s.len() {
+        most = larger(most, s[i]);
         i += 1;
     }
-    0 < bad
+    top < wide(most)
 }
+
+// ---- writers
 
 // The byte x at place at.
 pub fn put_u8(out: &mut [u8], at: usize, x: u8)
@@ -248,4 +300,16 @@ pub fn put_float(out: &mut [u8], x: f32)
     ensures { λ _. ⌜ now (out .exit) ≡ floatBytes x ⌝ }
 {
     put_f32(out, 0, x);
+}
+
+// A size as a whole buffer, where that is of four bytes: how each call that gives a size ends.
+pub fn put_size(out: &mut [u8], size: usize) -> u32
+    requires { ⌜ size < 2 ^ 32 ⌝ }
+    ensures { λ r. ⌜ (r, now (out .exit)) ≡ answer (cond (badLength (now (out .entry)) 4) 3 0) (now (out .entry)) (bytesOf 4 size) ⌝ }
+{
+    if out.len() != 4 {
+        return BAD_LENGTH;
+    }
+    put_number(out, size as u32);
+    ACCEPTED
 }

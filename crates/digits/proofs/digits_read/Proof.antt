@@ -1,25 +1,37 @@
 -- `digits::digits_read` meets its contract. Assumes nothing.
-use denote.Ref.{now}
-use Prim.Native.Nat.{ℕ}
-use mathlib.Core.Path.{sym, ap, _∙_}
+use mathlib.Core.Bool.{false, _||_}
+use mathlib.Core.Path.{_≡_, sym, ap, _∙_}
 use native.Mathlib.Omega.{arith}
-use mathlib.Core.List.{List}
 use Rattle.words.specs.Bytes.{bytesOf}
-use Rattle.digits.specs.Digits.{bitsOf, packedSize, digitAt}
+use Rattle.words.specs.Refusals.{badLength}
+use Rattle.words.proofs.RefusalLaws.{sized, unsized, first-bad, second-bad, none-bad}
+use Rattle.digits.specs.Digits.{bitsOf, packedSize}
 use Rattle.digits.proofs.DigitLaws.{within, is-width}
-use Rattle.digits.proofs.CallLaws.{read-dims, read-width, read-length, read-range, read-accepted}
-use Rattle.words.proofs.RefusalLaws.{few-dims, sized, unsized, first-bad, second-bad, none-bad}
-use Rattle.words.specs.Limits.{mostScalarDims}
+use Rattle.digits.proofs.CallLaws.{Judged, judge, size-of, read-dims, read-width, read-length, read-range, read-accepted}
 use borrow.Author.Needs.{needs}
 use Rattle.digits.proofs.digits_read.Statement.{statement}
 use Rattle.digits.proofs.digits_read.Tie as tie
+
+abbrev start : tie.After-known-told → tie.Start
+start c = c .before .before .before .before .before .before .before .before
+
+judged : (c : tie.After-known-told) → Judged (start c .args .dims) (start c .args .bits) (c .before .w .given .0 .0)
+judged c =
+    let e = c .before .before .before .before in
+    judge _ _ _ _ _ (e .before .bad-dims .ensures) (e .if1 .left) (c .before .before .before .of-bits .ensures) (c .before .w .given .1)
+
+size : (c : tie.After-packed-size) → let a = start (c .before) .args in c .packed-size .result ≡ packedSize (a .bits) (a .dims)
+size c = c .packed-size .ensures .0 ∙ size-of (judged (c .before))
+
+lengths : (c : tie.Else3) → let a = start (c .before .before .before) .args in
+    (badLength (a .packed .now) (packedSize (a .bits) (a .dims)) || badLength (a .out .now) 4) ≡ false
+lengths c = none-bad _ _ (sized _ _ (c .before .if2 .left ∙ size (c .before .before))) (sized _ _ (c .if3 .left))
 
 bad-dims-requires : tie.Need-bad-dims-requires
 bad-dims-requires c κs = search needs
 
 returns : tie.Need-returns
-returns c = let a = c .before .before .before .before .args in
-    read-dims (a .dims) (a .bits) (now (a .packed)) (a .index) (now (a .out)) (sym (c .before .bad-dims .ensures) ∙ c .if1 .taken)
+returns c = read-dims _ _ _ _ _ (sym (c .before .bad-dims .ensures) ∙ c .if1 .taken)
 
 of-bits-requires : tie.Need-of-bits-requires
 of-bits-requires c κs = search needs
@@ -31,53 +43,31 @@ enum-told : tie.Need-enum-told
 enum-told c = search needs
 
 returns-2 : tie.Need-returns-2
-returns-2 c = let a = c .before .before .before .before .before .before .before .args in
-    let d = sym (c .before .before .before .before .bad-dims .ensures) ∙ c .before .before .before .if1 .left in
-    read-width (a .dims) (a .bits) (now (a .packed)) (a .index) (now (a .out)) d (rw (c .enum-told .given .1) at (c .before .before .of-bits .ensures))
+returns-2 c =
+    let e = c .before .before .before in
+    read-width _ _ _ _ _ (sym (e .before .bad-dims .ensures) ∙ e .if1 .left) (rw (c .enum-told .given .1) at (c .before .before .of-bits .ensures))
 
 packed-size-requires : tie.Need-packed-size-requires
-packed-size-requires c κs = let a = c .before .before .before .before .before .before .before .before .args in
-    let d = sym (c .before .before .before .before .before .bad-dims .ensures) ∙ c .before .before .before .before .if1 .left in
-    few-dims mostScalarDims (a .dims) d
+packed-size-requires c κs = judged c .few
 
 returns-3 : tie.Need-returns-3
-returns-3 c = let a = c .before .before .before .before .before .before .before .before .before .before .args in
-    let d = sym (c .before .before .before .before .before .before .before .bad-dims .ensures)
-    ∙ c .before .before .before .before .before .before .if1 .left in
-    let f = rw (c .before .before .before .w .given .1) at (c .before .before .before .before .before .of-bits .ensures) in
-    let z = c .before .packed-size .ensures .0 ∙ ap (λ (b : ℕ). packedSize b (a .dims)) (f .1) in
-    read-length (a .dims) (a .bits) (now (a .packed)) (a .index) (now (a .out)) d (f .0)
-    (first-bad _ _ (unsized (now (a .packed)) (packedSize (a .bits) (a .dims)) (λ e. c .if2 .taken (e ∙ sym z))))
+returns-3 c =
+    read-length _ _ _ _ _ (judged (c .before .before)) (first-bad _ _ (unsized _ _ (λ l. c .if2 .taken (l ∙ sym (size (c .before))))))
 
 returns-4 : tie.Need-returns-4
-returns-4 c = let a = c .before .before .before .before .before .before .before .before .before .before .before .args in
-    let d = sym (c .before .before .before .before .before .before .before .before .bad-dims .ensures)
-    ∙ c .before .before .before .before .before .before .before .if1 .left in
-    let f = rw (c .before .before .before .before .w .given .1) at (c .before .before .before .before .before .before .of-bits .ensures) in
-    let z = c .before .before .packed-size .ensures .0 ∙ ap (λ (b : ℕ). packedSize b (a .dims)) (f .1) in
-    read-length (a .dims) (a .bits) (now (a .packed)) (a .index) (now (a .out)) d (f .0)
-    (second-bad _ _ (sized (now (a .packed)) (packedSize (a .bits) (a .dims)) (c .before .if2 .left ∙ z)) (unsized (now (a .out)) 4 (c .if3 .taken)))
+returns-4 c =
+    let e = c .before in
+    read-length _ _ _ _ _ (judged (e .before .before)) (second-bad _ _ (sized _ _ (e .if2 .left ∙ size (e .before))) (unsized _ _ (c .if3 .taken)))
 
 returns-5 : tie.Need-returns-5
-returns-5 c = let a = c .before .before .before .before .before .before .before .before .before .before .before .before .args in
-    let d = sym (c .before .before .before .before .before .before .before .before .before .bad-dims .ensures)
-    ∙ c .before .before .before .before .before .before .before .before .if1 .left in
-    let f = rw (c .before .before .before .before .before .w .given .1) at (c .before .before .before .before .before .before .before .of-bits .ensures) in
-    let z = c .before .before .before .packed-size .ensures .0 ∙ ap (λ (b : ℕ). packedSize b (a .dims)) (f .1) in
-    read-range (a .dims) (a .bits) (now (a .packed)) (a .index) (now (a .out)) d (f .0)
-    (none-bad _ _ (sized (now (a .packed)) (packedSize (a .bits) (a .dims)) (c .before .before .if2 .left ∙ z))
-    (sized (now (a .out)) 4 (c .before .if3 .left))) (c .if4 .taken)
+returns-5 c = let e = c .before in read-range _ _ _ _ _ (judged (e .before .before .before)) (lengths e) (c .if4 .taken)
 
 digit-requires : tie.Need-digit-requires
-digit-requires c κs = let a = c .before .before .before .before .before .before .before .before .before .before .before .before .before .args in
-    let d = sym (c .before .before .before .before .before .before .before .before .before .before .bad-dims .ensures)
-    ∙ c .before .before .before .before .before .before .before .before .before .if1 .left in (
-      rw (c .before .before .before .if2 .left, c .before .before .before .before .packed-size .ensures .0)
-          (within (bitsOf (c .before .before .before .before .before .before .w .given .0 .0)) (a .index) (a .dims)
-          (is-width (c .before .before .before .before .before .before .w .given .0 .0)) (c .before .if4 .left)),
-      omega
-          (arith, few-dims mostScalarDims (a .dims) d),
-    )
+digit-requires c κs =
+    let e = c .before .before .before in
+    let k = e .before .before in
+    let w = k .before .w .given .0 .0 in
+    (rw (e .if2 .left, e .before .packed-size .ensures .0) (within (bitsOf w) _ _ (is-width w) (c .before .if4 .left)), omega (arith, judged k .few))
 
 put-number-requires : tie.Need-put-number-requires
 put-number-requires c κs = search needs
@@ -86,19 +76,11 @@ same-length : tie.Need-same-length
 same-length c = search needs
 
 returns-6 : tie.Need-returns-6
-returns-6 c = let a =
-    c .before .before .before .before .before .before .before .before .before .before .before .before .before .before .before .before .before .args in
-    let d = sym (c .before .before .before .before .before .before .before .before .before .before .before .before .before .before .bad-dims .ensures)
-    ∙ c .before .before .before .before .before .before .before .before .before .before .before .before .before .if1 .left in
-    let f = rw (c .before .before .before .before .before .before .before .before .before .before .w .given .1) at
-    (c .before .before .before .before .before .before .before .before .before .before .before .before .of-bits .ensures) in
-    let z = c .before .before .before .before .before .before .before .before .packed-size .ensures .0 ∙ ap (λ (b : ℕ). packedSize b (a .dims)) (f .1) in
-    ap (λ (s : List ℕ). (0, s))
-    (c .before .before .put-number .ensures ∙ ap (bytesOf 4)
-    (c .before .before .before .digit .ensures ∙ ap (λ (b : ℕ). digitAt b (now (a .packed)) (a .index)) (f .1)))
-    ∙ read-accepted (a .dims) (a .bits) (now (a .packed)) (a .index) (now (a .out)) d (f .0)
-    (none-bad _ _ (sized (now (a .packed)) (packedSize (a .bits) (a .dims)) (c .before .before .before .before .before .before .before .if2 .left ∙ z))
-    (sized (now (a .out)) 4 (c .before .before .before .before .before .before .if3 .left))) (c .before .before .before .before .before .if4 .left)
+returns-6 c =
+    let d = c .before .before in
+    let f = d .before .before .before in
+    read-accepted _ _ _ _ _ (judged (f .before .before .before .before)) _ (lengths (f .before)) (f .if4 .left)
+    (d .put-number .ensures ∙ ap (bytesOf 4) (d .before .digit .ensures))
 
 pub digits-read-spec : {M : Type 1} → statement M
 digits-read-spec =

@@ -1,22 +1,23 @@
 -- `digits::digits_size` meets its contract. Assumes nothing.
-use denote.Ref.{now}
-use Prim.Native.Nat.{ℕ}
-use mathlib.Core.Path.{sym, ap, _∙_}
-use mathlib.Core.List.{List}
-use Rattle.words.specs.Bytes.{bytesOf}
-use Rattle.digits.specs.Digits.{packedSize}
-use Rattle.digits.proofs.CallLaws.{size-dims, size-width, size-length, size-accepted}
-use Rattle.words.proofs.RefusalLaws.{few-dims, sized, unsized}
-use Rattle.words.specs.Limits.{mostScalarDims}
+use mathlib.Core.Path.{sym, _∙_}
+use Rattle.digits.proofs.CallLaws.{Judged, judge, size-of, size-dims, size-width, size-judged}
 use borrow.Author.Needs.{needs}
 use Rattle.digits.proofs.digits_size.Statement.{statement}
 use Rattle.digits.proofs.digits_size.Tie as tie
+
+abbrev start : tie.After-known-told → tie.Start
+start c = c .before .before .before .before .before .before .before
+
+judged : (c : tie.After-known-told) → Judged (start c .args .dims) (start c .args .bits) (c .before .w .given .0 .0)
+judged c =
+    let e = c .before .before .before .before in
+    judge _ _ _ _ _ (e .before .bad-dims .ensures) (e .if1 .left) (c .before .before .before .of-bits .ensures) (c .before .w .given .1)
 
 bad-dims-requires : tie.Need-bad-dims-requires
 bad-dims-requires c κs = search needs
 
 returns : tie.Need-returns
-returns c = let a = c .before .before .before .args in size-dims (a .dims) (a .bits) (now (a .out)) (sym (c .before .bad-dims .ensures) ∙ c .if1 .taken)
+returns c = size-dims _ _ _ (sym (c .before .bad-dims .ensures) ∙ c .if1 .taken)
 
 of-bits-requires : tie.Need-of-bits-requires
 of-bits-requires c κs = search needs
@@ -28,39 +29,24 @@ enum-told : tie.Need-enum-told
 enum-told c = search needs
 
 returns-2 : tie.Need-returns-2
-returns-2 c = let a = c .before .before .before .before .before .before .args in
-    let d = sym (c .before .before .before .before .bad-dims .ensures) ∙ c .before .before .before .if1 .left in
-    size-width (a .dims) (a .bits) (now (a .out)) d (rw (c .enum-told .given .1) at (c .before .before .of-bits .ensures))
-
-returns-3 : tie.Need-returns-3
-returns-3 c = let a = c .before .before .before .before .before .before .before .before .args in
-    let d = sym (c .before .before .before .before .before .before .bad-dims .ensures) ∙ c .before .before .before .before .before .if1 .left in
-    let f = rw (c .before .before .w .given .1) at (c .before .before .before .before .of-bits .ensures) in
-    size-length (a .dims) (a .bits) (now (a .out)) d (f .0) (unsized (now (a .out)) 4 (c .if2 .taken))
+returns-2 c =
+    let e = c .before .before .before in
+    size-width _ _ _ (sym (e .before .bad-dims .ensures) ∙ e .if1 .left) (rw (c .enum-told .given .1) at (c .before .before .of-bits .ensures))
 
 packed-size-requires : tie.Need-packed-size-requires
-packed-size-requires c κs = let a = c .before .before .before .before .before .before .before .before .args in
-    let d = sym (c .before .before .before .before .before .before .bad-dims .ensures) ∙ c .before .before .before .before .before .if1 .left in
-    few-dims mostScalarDims (a .dims) d
+packed-size-requires c κs = judged (c .before) .few
 
-cast-put-number : tie.Need-cast-put-number
-cast-put-number c = search needs
-
-put-number-requires : tie.Need-put-number-requires
-put-number-requires c κs = search needs
+put-size-requires : tie.Need-put-size-requires
+put-size-requires c κs = search needs
 
 same-length : tie.Need-same-length
 same-length c = search needs
 
-returns-4 : tie.Need-returns-4
-returns-4 c = let a = c .before .before .before .before .before .before .before .before .before .before .before .before .before .args in
-    let d = sym (c .before .before .before .before .before .before .before .before .before .before .before .bad-dims .ensures)
-    ∙ c .before .before .before .before .before .before .before .before .before .before .if1 .left in
-    let f = rw (c .before .before .before .before .before .before .before .w .given .1) at
-    (c .before .before .before .before .before .before .before .before .before .of-bits .ensures) in
-    let z = c .before .before .before .before .packed-size .ensures .0 ∙ ap (λ (b : ℕ). packedSize b (a .dims)) (f .1) in
-    ap (λ (s : List ℕ). (0, s)) (c .before .before .put-number .ensures ∙ ap (bytesOf 4) z)
-    ∙ size-accepted (a .dims) (a .bits) (now (a .out)) d (f .0) (sized (now (a .out)) 4 (c .before .before .before .before .before .if2 .left))
+returns-3 : tie.Need-returns-3
+returns-3 c =
+    let e = c .before .before in
+    let j = judged (e .before .before .before) in
+    e .put-size .ensures ∙ size-judged _ _ _ _ j (e .before .packed-size .ensures .0 ∙ size-of j)
 
 pub digits-size-spec : {M : Type 1} → statement M
 digits-size-spec =
@@ -72,9 +58,7 @@ digits-size-spec =
     enum-known-w
     enum-told
     returns-2
-    returns-3
     packed-size-requires
-    cast-put-number
-    put-number-requires
+    put-size-requires
     same-length
-    returns-4)
+    returns-3)

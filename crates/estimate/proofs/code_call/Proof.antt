@@ -8,7 +8,7 @@ use Rattle.words.proofs.RefusalLaws.{few-dims}
 use Rattle.code.specs.Code.{codeSize}
 use Rattle.estimate.specs.Record.{codeEstimate}
 use Rattle.estimate.specs.Calls.{recordNumber}
-use Rattle.estimate.proofs.EstimateLaws.{nan-tells, number-tells}
+use Rattle.words.proofs.FloatLaws.{nan-tells, number-tells}
 use Rattle.estimate.proofs.CallLaws.{Sized, judged, record-sized, code-bad-dims, code-refused, code-none, code-value}
 use borrow.Author.Needs.{needs}
 use Rattle.estimate.proofs.code_call.Statement.{statement}

@@ -3,14 +3,14 @@ use borrow.Author.Needs.{needs}
 use Rattle.rerank.proofs.nan_if.Statement.{statement}
 use Rattle.rerank.proofs.nan_if.Tie as tie
 
-nan-requires : tie.Need-nan-requires
-nan-requires c κs = search needs
+nan-one-requires : tie.Need-nan-one-requires
+nan-one-requires c κs = search needs
 
 returns : tie.Need-returns
-returns c = rw (c .before .if1 .taken) (c .nan .ensures)
+returns c = rw (c .before .if1 .taken) (c .nan-one .ensures)
 
 returns-2 : tie.Need-returns-2
 returns-2 c = search needs
 
 pub nan-if-spec : {M : Type 1} → statement M
-nan-if-spec = tie.close (tie.spec nan-requires returns returns-2)
+nan-if-spec = tie.close (tie.spec nan-one-requires returns returns-2)

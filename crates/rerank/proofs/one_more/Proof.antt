@@ -18,8 +18,8 @@ key-if-requires-2 c κs = search needs
 least-of-requires-2 : tie.Need-least-of-requires-2
 least-of-requires-2 c κs = search needs
 
-nan-requires : tie.Need-nan-requires
-nan-requires c κs = search needs
+nan-one-requires : tie.Need-nan-one-requires
+nan-one-requires c κs = search needs
 
 add-missing : tie.Need-add-missing
 add-missing c = search needs
@@ -37,7 +37,7 @@ returns c =
     let least = c .before .before .before .before .before .least-of .ensures in
     let key2 = c .before .before .before .before .key-if2 .ensures in
     let least2 = c .before .before .before .least-of2 .ensures in
-    let nan = c .before .before .nan .ensures in
+    let nan = c .before .before .nan-one .ensures in
     let waiting = least ∙ ap (lesser _) key in
     let asked = least2 ∙ ap (lesser _) key2 in
     (omega (arith, nan .0, c .nan-if .ensures .0), (waiting, asked))
@@ -50,7 +50,7 @@ one-more-spec =
     least-of-requires
     key-if-requires-2
     least-of-requires-2
-    nan-requires
+    nan-one-requires
     add-missing
     nan-if-requires
     add-missing-2

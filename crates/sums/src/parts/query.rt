@@ -1,29 +1,18 @@
 // The query codes themselves.
 ghost use mathlib.Core.Path.{_≡_};
-ghost use Prim.Native.Nat.{_≤_, max};
-ghost use Rattle.words.specs.Limits.{mostSum};
-ghost use Rattle.sums.specs.Sums.{aboveTop, querySum};
+ghost use Prim.Native.Nat.{_≤_};
+ghost use Rattle.words.specs.Limits.{mostSum, topCode};
+ghost use Rattle.words.specs.Lists.{anyAbove};
+ghost use Rattle.sums.specs.Sums.{querySum};
 ghost use Rattle.sums.specs.Held.{Query};
 use words::TOP_CODE;
 use words::wide;
 
-fn greater(a: u8, b: u8) -> u8
-    ensures { λ r. ⌜ r ≡ max a b ⌝ }
-{
-    if a < b { b } else { a }
-}
-
-// Whether a query code is above the greatest. The loop takes the largest and doesn't leave early: so it goes by vectors.
+// Whether a query code is above the greatest.
 pub fn above_top(q: &[u8]) -> bool
-    ensures { λ r. ⌜ r ≡ aboveTop (now (q .entry)) ⌝ }
+    ensures { λ r. ⌜ r ≡ anyAbove topCode (now (q .entry)) ⌝ }
 {
-    let mut top = 0u8;
-    let mut i = 0usize;
-    while i < q.len() {
-        top = greater(top, q[i]);
-        i += 1;
-    }
-    TOP_CODE < top
+    words::any_above(TOP_CODE, q)
 }
 
 // The sum of all query codes.

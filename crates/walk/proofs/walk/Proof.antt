@@ -3,9 +3,7 @@ use mathlib.Core.Path.{_≡_, refl, sym, ap, _∙_}
 use Prim.Native.Nat.{ℕ, _-_}
 use native.Mathlib.Omega.{arith}
 use lib.ListN.{length, length-replicate}
-use lib.Ieee.{isNan}
-use Rattle.words.specs.Bytes.{f32At}
-use Rattle.words.specs.Lists.{anyBelow}
+use Rattle.words.specs.Floats.{anyNan}
 use Rattle.words.specs.Metrics.{metricOf}
 use Rattle.walk.specs.Walk.{layoutOf, rangeNumber, boundWords}
 use Rattle.walk.proofs.WalkLaws.{nans-back}
@@ -55,7 +53,7 @@ unfolding someNan
 none c =
     let e8 = c .before .before .before .before .before .before .before .before in
     let bs = c .before .part .result .now in
-    c .any-nan .ensures ∙ ap (λ (x : ℕ). anyBelow x (λ j. isNan (f32At bs j))) (e8 .range-len .ensures)
+    c .any-nan .ensures ∙ ap (λ (x : ℕ). anyNan x bs) (e8 .range-len .ensures)
     ∙ nans-back _ _ _ _ _ _ _ _ (filled (c .before))
 
 bad-lists-requires : tie.Need-bad-lists-requires

@@ -4,9 +4,9 @@ use Prim.Native.Nat.{ℕ, _+_, _-_, _<_, _≤_}
 use mathlib.Core.List.{List}
 use native.Mathlib.Omega.{arith}
 use Rattle.words.specs.Digits.{join, kept}
-use Rattle.words.proofs.DigitLaws.{join-none, kept-lt}
+use Rattle.words.proofs.DigitLaws.{digit-more, join-none, kept-lt}
 use Rattle.code.specs.Calls.{signClear}
-use Rattle.code.proofs.CodeLaws.{digit-more, sign-lt}
+use Rattle.code.proofs.CodeLaws.{sign-lt}
 use Rattle.code.proofs.parts.eight_bits.Statement.{statement}
 use Rattle.code.proofs.parts.eight_bits.Tie as tie
 
@@ -42,7 +42,7 @@ add-byte : tie.Need-add-byte Inv-loop μ-loop
 add-byte c =
     let a = c .before .before .before .before .args in let l = c .before .before .loop in
     record {
-      fits = digit-more (digit (a .v .now) (a .dims) (a .d)) (two (a .v .now) (a .dims) (a .d)) (l .j) (l .byte) _ (omega arith) (l .inv .1)
+      fits = digit-more 1 8 (l .j) (l .j) (l .byte) _ _ (two (a .v .now) (a .dims) (a .d)) (omega arith) (omega arith) (l .inv .1)
           (c .sign-bit .ensures .0) .1;
     }
 
@@ -56,7 +56,7 @@ loop-again : tie.Need-loop-again Inv-loop μ-loop
 loop-again c =
     let a = c .before .before .before .before .args in let l = c .before .before .loop in (
       omega arith,
-      digit-more (digit (a .v .now) (a .dims) (a .d)) (two (a .v .now) (a .dims) (a .d)) (l .j) (l .byte) _ (omega arith) (l .inv .1)
+      digit-more 1 8 (l .j) (l .j) (l .byte) _ _ (two (a .v .now) (a .dims) (a .d)) (omega arith) (omega arith) (l .inv .1)
           (c .sign-bit .ensures .0) .0,
     )
 

@@ -1,6 +1,6 @@
 -- `digits::parts::join_codes` meets its contract. Assumes nothing.
 use Prim.Native.Nat.{_+_, _*_, _-_, _≤_}
-use mathlib.Core.Path.{_≡_, sym}
+use mathlib.Core.Path.{_≡_, refl, sym}
 use native.Mathlib.Nat.{mul-zero}
 use native.Mathlib.Omega.{arith}
 use lib.ListN.{getD}
@@ -34,9 +34,10 @@ shl-byte c = omega (arith, place-lt (c .before .before .before .args .bits) (c .
 add-byte-2 : tie.Need-add-byte-2 Inv-loop μ-loop
 add-byte-2 c =
     let a = c .before .before .before .args in let p = c .before .before .before .pre in let l = c .before .before .loop in
-    let t = join-turn (a .bits) (l .j) (λ j. getD (a .codes .now) (a .at + j) 0) (p .0) (λ j. small (a .bits) (a .codes .now) (p .3) (a .at + j))
-    (omega arith) in
-    rw (l .inv .1, l .inv .2, t .0) (omega (arith, t .1))
+    record {
+      fits = join-turn (a .bits) (l .j) (l .place) (l .byte) _ (λ j. getD (a .codes .now) (a .at + j) 0) (p .0)
+          (λ j. small (a .bits) (a .codes .now) (p .3) (a .at + j)) (omega arith) (l .inv .1) (l .inv .2) refl .1;
+    }
 
 add-place : tie.Need-add-place Inv-loop μ-loop
 add-place c =
@@ -53,9 +54,9 @@ loop-less c = omega arith
 loop-again : tie.Need-loop-again Inv-loop μ-loop
 loop-again c =
     let a = c .before .before .before .args in let p = c .before .before .before .pre in let l = c .before .before .loop in
-    let t = join-turn (a .bits) (l .j) (λ j. getD (a .codes .now) (a .at + j) 0) (p .0) (λ j. small (a .bits) (a .codes .now) (p .3) (a .at + j))
-    (omega arith) in
-    (omega arith, rw (l .inv .1) (omega arith), rw (l .inv .1, l .inv .2) (t .0))
+    let t = join-turn (a .bits) (l .j) (l .place) (l .byte) _ (λ j. getD (a .codes .now) (a .at + j) 0) (p .0)
+    (λ j. small (a .bits) (a .codes .now) (p .3) (a .at + j)) (omega arith) (l .inv .1) (l .inv .2) refl in
+    (omega arith, rw (l .inv .1) (omega arith), t .0)
 
 returns : tie.Need-returns Inv-loop μ-loop
 returns c = let l = c .before .loop in let e : l .j ≡ c .before .before .args .n = omega arith in rw (sym e) (l .inv .2)

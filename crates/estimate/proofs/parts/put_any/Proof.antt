@@ -1,19 +1,13 @@
 -- `estimate::parts::put_any` meets its contract. Assumes nothing.
-use mathlib.Core.Path.{_≡_, sym, ap, _∙_}
-use Prim.Native.Nat.{_-_, _*_, _≤_, zero-le}
+use Prim.Native.Nat.{_-_, zero-le}
 use native.Mathlib.Omega.{arith}
-use lib.ListN.{length, getD, take}
-use lib.Seq.{take-all}
 use Rattle.words.proofs.WordsLaws.{words-none}
-use Rattle.code.specs.declared.parts.reader.Factors.{Factors}
-use Rattle.estimate.specs.Estimate.{estimate}
-use Rattle.estimate.specs.Record.{estimateWords}
-use Rattle.estimate.proofs.EstimateLaws.{floats-more}
+use Rattle.estimate.proofs.EstimateLaws.{Written, lane-more, lanes-written}
 use Rattle.estimate.proofs.parts.put_any.Statement.{statement}
 use Rattle.estimate.proofs.parts.put_any.Tie as tie
 
 abbrev Inv-loop : tie.InvT-loop
-Inv-loop w m p s block out₀ k₀ out k = (k ≤ 32) × (length out ≡ 128) × (take (4 * k) out ≡ estimateWords k w m p s block)
+Inv-loop w m p s block out₀ k₀ out k = Written w m p s block out k
 
 abbrev μ-loop : tie.MeasureT-loop
 μ-loop w m p s block out₀ k₀ out k = 32 - k
@@ -51,27 +45,21 @@ loop-less c = omega arith
 
 loop-again : tie.Need-loop-again Inv-loop μ-loop
 loop-again c =
-    let e2 = c .before .before in
-    let e3 = e2 .before in
-    let e6 = e3 .before .before .before in
-    let e8 = e6 .before .before in
-    let e12 = e8 .before .before .before .before in
-    let l = e8 .loop in
-    let a = e12 .args in
-    let one =
-    e3 .estimate-of .ensures ∙ ap (λ (f : Factors). estimate (a .w) (a .m) (a .p .v) f (getD (a .s .now) (l .k) 0) (a .p .total))
-    (e6 .lane-factors .ensures) in
-    let next = floats-more (l .out) _ (l .k) _ _ (omega arith) (e2 .put-f32 .ensures) one (l .inv .2) in
-    (omega arith, next .1 ∙ l .inv .1, next .0)
+    let e = c .before .before .before in
+    let f = e .before .before .before in
+    let l = f .before .before in
+    let a = l .before .before .before .before .args in
+    lane-more _ _ (a .p) (a .s .now) (a .block .now) (l .loop .out) (l .loop .k) (l .loop .inv) _ _ _
+    (f .before .loop-test .taken) (f .lane-factors .ensures) (e .estimate-of .ensures) (c .before .before .put-f32 .ensures)
 
 same-length : tie.Need-same-length Inv-loop μ-loop
 same-length c = omega arith
 
 returns : tie.Need-returns Inv-loop μ-loop
 returns c =
-    let l = c .before .loop in
-    let e : l .k ≡ 32 = omega arith in
-    sym (take-all 128 (l .out) (omega arith)) ∙ (rw e at (l .inv .2))
+    let l = c .before in
+    let a = l .before .before .before .before .args in
+    lanes-written _ _ (a .p) (a .s .now) (a .block .now) (l .loop .out) (l .loop .k) (l .loop .inv) (omega arith)
 
 pub put-any-spec : {M : Type 1} → statement M
 put-any-spec =

@@ -7,16 +7,16 @@ use borrow.Author.Needs.{needs}
 use Rattle.scalar.proofs.code.code_at.Statement.{statement}
 use Rattle.scalar.proofs.code.code_at.Tie as tie
 
-finite-at-requires : tie.Need-finite-at-requires
-finite-at-requires c κs =
+number-at-requires : tie.Need-number-at-requires
+number-at-requires c κs =
     let s = c .before .before .before in (omega arith, none-missing _ _ (s .pre .0 .vector-there) (s .args .i) (s .pre .1))
 
-finite-at-requires-2 : tie.Need-finite-at-requires-2
-finite-at-requires-2 c κs =
+number-at-requires-2 : tie.Need-number-at-requires-2
+number-at-requires-2 c κs =
     let s = c .before .before .before .before in (omega arith, none-missing _ _ (s .pre .0 .lo-there) (s .args .i) (s .pre .1))
 
-finite-at-requires-3 : tie.Need-finite-at-requires-3
-finite-at-requires-3 c κs =
+number-at-requires-3 : tie.Need-number-at-requires-3
+number-at-requires-3 c κs =
     let s = c .before .before .before .before .before in (omega arith, none-missing _ _ (s .pre .0 .hi-there) (s .args .i) (s .pre .1))
 
 del-of-requires : tie.Need-del-of-requires
@@ -29,7 +29,7 @@ returns : tie.Need-returns
 unfolding codeAt quotient
 returns c =
     let f = c .before .before in
-    rw (c .code-of .ensures, c .before .del-of .ensures, f .before .before .finite-at .ensures, f .before .finite-at2 .ensures, f .finite-at3 .ensures) refl
+    rw (c .code-of .ensures, c .before .del-of .ensures, f .before .before .number-at .ensures, f .before .number-at2 .ensures, f .number-at3 .ensures) refl
 
 pub code-at-spec : {M : Type 1} → statement M
-code-at-spec = tie.close (tie.spec finite-at-requires finite-at-requires-2 finite-at-requires-3 del-of-requires code-of-requires returns)
+code-at-spec = tie.close (tie.spec number-at-requires number-at-requires-2 number-at-requires-3 del-of-requires code-of-requires returns)

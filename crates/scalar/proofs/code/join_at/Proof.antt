@@ -1,5 +1,5 @@
 -- `scalar::code::join_at` meets its contract. Assumes nothing.
-use Prim.Native.Nat.{ℕ, _+_, _*_, _%_, _^_, _-_, _≤_, _<_}
+use Prim.Native.Nat.{_+_, _*_, _%_, _^_, _-_, _≤_, _<_}
 use mathlib.Core.Path.{_≡_, sym}
 use native.Mathlib.Nat.{mul-zero}
 use native.Mathlib.Omega.{arith}
@@ -40,17 +40,19 @@ shl-byte : tie.Need-shl-byte Inv-loop μ-loop
 shl-byte c = omega (arith, placed c)
 
 -- a turn of the loop: nothing is shifted out, and the sum fits
-turn : (c : tie.After-code-at Inv-loop μ-loop) → let a = c .before .before .before .before .before .before .args in let j = c .before .before .loop .j in
-    let f : ℕ → ℕ = λ j. codeAt (a .top) (a .vector .now) (a .lo .now) (a .hi .now) (a .at + j) in
-    (join (a .bits) j f + f j * 2 ^ (a .bits * j) % 256 ≡ join (a .bits) (j + 1) f) × (join (a .bits) (j + 1) f < 256)
+turn : (c : tie.After-code-at Inv-loop μ-loop) → let a = c .before .before .before .before .before .before .args in let l = c .before .before .loop in
+    let x = l .byte + c .code-at .result * 2 ^ l .place % 256 in
+    (x ≡ join (a .bits) (l .j + 1) (λ j. codeAt (a .top) (a .vector .now) (a .lo .now) (a .hi .now) (a .at + j))) × (x < 256)
 turn c =
     let s = c .before .before .before .before .before .before in
     let a = s .args in
-    join-turn (a .bits) (c .before .before .loop .j) _ (s .pre .1 .0)
+    let l = c .before .before .loop in
+    join-turn (a .bits) (l .j) (l .place) (l .byte) _ _ (s .pre .1 .0)
     (λ j. code-small (a .bits) (a .top) (s .pre .1 .1) (a .vector .now) (a .lo .now) (a .hi .now) (a .at + j)) (omega arith)
+    (l .inv .1) (l .inv .2) (c .code-at .ensures)
 
 add-byte : tie.Need-add-byte Inv-loop μ-loop
-add-byte c = let l = c .before .before .loop in rw (c .code-at .ensures, l .inv .1, l .inv .2, turn c .0) (omega (arith, turn c .1))
+add-byte c = record { fits = turn c .1 }
 
 add-place : tie.Need-add-place Inv-loop μ-loop
 add-place c =
@@ -67,7 +69,7 @@ loop-less c = omega arith
 loop-again : tie.Need-loop-again Inv-loop μ-loop
 loop-again c =
     let l = c .before .before .loop in
-    (omega arith, rw (l .inv .1) (omega arith), rw (c .code-at .ensures, l .inv .1, l .inv .2) (turn c .0))
+    (omega arith, rw (l .inv .1) (omega arith), turn c .0)
 
 returns : tie.Need-returns Inv-loop μ-loop
 returns c = let l = c .before .loop in let e : l .j ≡ c .before .before .before .before .before .args .n = omega arith in rw (sym e) (l .inv .2)

@@ -31,18 +31,18 @@ abbrev μ-loop : tie.MeasureT-loop
 loop-holds : tie.Need-loop-holds Inv-loop μ-loop
 loop-holds c = (omega arith, omega arith, rw joined-none refl)
 
-finite-at-requires : tie.Need-finite-at-requires Inv-loop μ-loop
-finite-at-requires c κs =
+number-at-requires : tie.Need-number-at-requires Inv-loop μ-loop
+number-at-requires c κs =
     let p = c .before .before .before .before .before .before .pre .0 in
     (omega arith, none-missing _ _ (p .vector-there) (c .before .loop .i) (c .loop-test .taken))
 
-finite-at-requires-2 : tie.Need-finite-at-requires-2 Inv-loop μ-loop
-finite-at-requires-2 c κs =
+number-at-requires-2 : tie.Need-number-at-requires-2 Inv-loop μ-loop
+number-at-requires-2 c κs =
     let p = c .before .before .before .before .before .before .before .pre .0 in
     (omega arith, none-missing _ _ (p .lo-there) (c .before .before .loop .i) (c .before .loop-test .taken))
 
-finite-at-requires-3 : tie.Need-finite-at-requires-3 Inv-loop μ-loop
-finite-at-requires-3 c κs =
+number-at-requires-3 : tie.Need-number-at-requires-3 Inv-loop μ-loop
+number-at-requires-3 c κs =
     let p = c .before .before .before .before .before .before .before .before .pre .0 in
     (omega arith, none-missing _ _ (p .hi-there) (c .before .before .before .loop .i) (c .before .before .loop-test .taken))
 
@@ -88,7 +88,7 @@ loop-again c =
       omega arith,
       rw (l .inv .1, p .1) (omega arith),
       c .before .before .put-row .ensures
-          ∙ rw (d .del-of .ensures, f .before .before .finite-at .ensures, f .before .finite-at2 .ensures, f .finite-at3 .ensures, p .1, p .2, l .inv .2)
+          ∙ rw (d .del-of .ensures, f .before .before .number-at .ensures, f .before .number-at2 .ensures, f .number-at3 .ensures, p .1, p .2, l .inv .2)
           (piece-more (levels (a .bits) * 4) g (λ i. length-row (levels (a .bits)) _) (a .out .now) 0 (l .i) (l .at) (rw (l .inv .1) (omega arith))),
     )
 
@@ -109,5 +109,5 @@ returns c =
 pub fill-rows-spec : {M : Type 1} → statement M
 fill-rows-spec =
     tie.close
-    (tie.spec Inv-loop μ-loop loop-holds finite-at-requires finite-at-requires-2 finite-at-requires-3 del-of-requires put-row-requires mul-at
+    (tie.spec Inv-loop μ-loop loop-holds number-at-requires number-at-requires-2 number-at-requires-3 del-of-requires put-row-requires mul-at
     add-at add-i loop-less loop-again same-length returns)

@@ -1,12 +1,10 @@
 -- `sums::parts::planes::word` meets its contract. Assumes nothing.
-use mathlib.Core.Path.{_≡_, sym, ap, ap₂, _∙_, subst}
+use mathlib.Core.Path.{_≡_, refl, sym, ap, _∙_}
 use Prim.Native.Nat.{ℕ, _+_, _*_, _-_, _%_, _^_, _≤_, _<_, zero-le}
 use native.Mathlib.Omega.{arith}
-use native.Mathlib.Nat.{lt-of-lt-of-le}
 use lib.ListN.{getD}
-use lib.Pow.{shl-exact, pow-mono}
 use Rattle.words.specs.Digits.{join}
-use Rattle.words.proofs.DigitLaws.{bits-lt, join-none, join-more, join-lt}
+use Rattle.words.proofs.DigitLaws.{bits-lt, digit-more, join-none}
 use Rattle.sums.proofs.PlaneLaws.{join-nibbles}
 use borrow.Author.Needs.{needs}
 use Rattle.sums.proofs.parts.planes.word.Statement.{statement}
@@ -22,21 +20,14 @@ abbrev μ-loop : tie.MeasureT-loop
 nibble-of : tie.After-nibble Inv-loop μ-loop → ℕ → ℕ
 nibble-of c i = join 1 4 (λ j. getD (c .before .before .before .before .args .d .now) (4 * i + j) 0)
 
-step : (c : tie.After-nibble Inv-loop μ-loop) → c .before .before .loop .r + c .nibble .result * 2 ^ (4 * c .before .before .loop .k) % 2 ^ 64 ≡ join 4
-    (c .before .before .loop .k + 1) (nibble-of c)
+step : (c : tie.After-nibble Inv-loop μ-loop) → let l = c .before .before .loop in
+    (l .r + c .nibble .result * 2 ^ (4 * l .k) % 2 ^ 64 ≡ join 4 (l .k + 1) (nibble-of c)) × (l .r + c .nibble .result * 2 ^ (4 * l .k) % 2 ^ 64 < 2 ^ 64)
 unfolding nibble-of
 step c =
-    let k = c .before .before .loop .k in
-    ap₂ (λ (x y : ℕ). x + y) (c .before .before .loop .inv .1)
-    (shl-exact 4 (4 * k) 64 (c .nibble .ensures .1) (omega arith) ∙ ap (λ (x : ℕ). x * 2 ^ (4 * k)) (c .nibble .ensures .0))
-    ∙ sym (join-more 4 k (nibble-of c))
-
-fit : (c : tie.After-nibble Inv-loop μ-loop) → join 4 (c .before .before .loop .k + 1) (nibble-of c) < 2 ^ 64
-unfolding nibble-of
-fit c =
-    let c4 = c .before .before .before .before in
-    let k = c .before .before .loop .k in
-    lt-of-lt-of-le (join-lt 4 (k + 1) (nibble-of c) (λ i. bits-lt 4 _ (λ j. c4 .pre .1 (4 * i + j)))) (pow-mono {i = 4 * (k + 1)} {j = 64} (omega arith))
+    let l = c .before .before .loop in
+    let s = c .before .before .before .before in
+    digit-more 4 64 (l .k) (4 * l .k) (l .r) _ (nibble-of c) (λ i. bits-lt 4 _ (λ j. s .pre .1 (4 * i + j))) (omega arith) refl (l .inv .1)
+    (c .nibble .ensures .0)
 
 loop-holds : tie.Need-loop-holds Inv-loop μ-loop
 loop-holds c = (zero-le, sym (join-none 4 _))
@@ -51,7 +42,7 @@ shl-r : tie.Need-shl-r Inv-loop μ-loop
 shl-r c = search needs
 
 add-r : tie.Need-add-r Inv-loop μ-loop
-add-r c = record { fits = subst (λ (x : ℕ). x < 2 ^ 64) (sym (step c)) (fit c) }
+add-r c = record { fits = step c .1 }
 
 add-k : tie.Need-add-k Inv-loop μ-loop
 add-k c = search needs
@@ -61,7 +52,7 @@ loop-less c = omega arith
 
 loop-again : tie.Need-loop-again Inv-loop μ-loop
 unfolding nibble-of
-loop-again c = (omega arith, step c)
+loop-again c = (omega arith, step c .0)
 
 returns : tie.Need-returns Inv-loop μ-loop
 returns c =

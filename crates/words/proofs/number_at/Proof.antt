@@ -1,11 +1,11 @@
--- `estimate::parts::number_at` meets its contract. Assumes nothing.
+-- `words::number_at` meets its contract. Assumes nothing.
 use mathlib.Core.Path.{ap}
 use lib.Ieee.{ofBits, binary32}
 use Rattle.words.specs.Bytes.{f32At}
-use Rattle.estimate.proofs.EstimateLaws.{number-pattern}
+use Rattle.words.proofs.FloatLaws.{number-pattern}
 use borrow.Author.Needs.{needs}
-use Rattle.estimate.proofs.parts.number_at.Statement.{statement}
-use Rattle.estimate.proofs.parts.number_at.Tie as tie
+use Rattle.words.proofs.number_at.Statement.{statement}
+use Rattle.words.proofs.number_at.Tie as tie
 
 mul-u32-at : tie.Need-mul-u32-at
 mul-u32-at c = search needs

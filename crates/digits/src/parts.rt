@@ -81,7 +81,7 @@ fn pack_bits(bits: u32, per: usize, codes: &[u8], out: &mut [u8])
 
 // The codes of a whole byte, from place at on.
 fn join_whole(bits: u32, per: usize, codes: &[u8], at: usize) -> u8
-    requires { ⌜ (isWidth bits ≡ true) × (per ≡ perByte bits) × (at + per ≤ length (now codes)) × (aboveTop (top bits) (now codes) ≡ false) ⌝ }
+    requires { ⌜ (isWidth bits ≡ true) × (per ≡ perByte bits) × (at + per ≤ length (now codes)) × (anyAbove (top bits) (now codes) ≡ false) ⌝ }
     ensures { λ r. ⌜ r ≡ join bits per (λ j. getD (now (codes .entry)) (at + j) 0) ⌝ }
 {
     if bits == 1 {
@@ -99,7 +99,7 @@ fn join_whole(bits: u32, per: usize, codes: &[u8], at: usize) -> u8
 // The next three read the codes as one number, with a code in each byte of it, and bring neighbours together: first codes, then
 // pairs, then fours. A loop over the codes of a byte becomes a load for each of them, at five to ten times the price.
 fn join_eight(codes: &[u8], at: usize) -> u8
-    requires { ⌜ (at + 8 ≤ length (now codes)) × (aboveTop (top 1) (now codes) ≡ false) ⌝ }
+    requires { ⌜ (at + 8 ≤ length (now codes)) × (anyAbove (top 1) (now codes) ≡ false) ⌝ }
     ensures { λ r. ⌜ r ≡ join 1 8 (λ j. getD (now (codes .entry)) (at + j) 0) ⌝ }
 {
     let x = u64_at(codes, at);
@@ -109,7 +109,7 @@ fn join_eight(codes: &[u8], at: usize) -> u8
 }
 
 fn join_four(codes: &[u8], at: usize) -> u8
-    requires { ⌜ (at + 4 ≤ length (now codes)) × (aboveTop (top 2) (now codes) ≡ false) ⌝ }
+    requires { ⌜ (at + 4 ≤ length (now codes)) × (anyAbove (top 2) (now codes) ≡ false) ⌝ }
     ensures { λ r. ⌜ r ≡ join 2 4 (λ j. getD (now (codes .entry)) (at + j) 0) ⌝ }
 {
     let x = u32_at(codes, at);
@@ -118,7 +118,7 @@ fn join_four(codes: &[u8], at: usize) -> u8
 }
 
 fn join_two(codes: &[u8], at: usize) -> u8
-    requires { ⌜ (at + 2 ≤ length (now codes)) × (aboveTop (top 4) (now codes) ≡ false) ⌝ }
+    requires { ⌜ (at + 2 ≤ length (now codes)) × (anyAbove (top 4) (now codes) ≡ false) ⌝ }
     ensures { λ r. ⌜ r ≡ join 4 2 (λ j. getD (now (codes .entry)) (at + j) 0) ⌝ }
 {
     let end = at + 2;

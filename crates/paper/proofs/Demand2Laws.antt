@@ -28,5 +28,5 @@ demand-2 =
       lane-back = lane-of-packed;
       block-back = packed-of-lanes;
       lane-estimate = λ asked metric dims v query whole out lanes one k. lane-or-none asked metric dims v query whole out lanes one k;
-      walks = λ metric dims v query codes fill n start end ids bounds marks count. packed-walk metric dims v query codes fill n start end ids bounds marks count;
+      walks = packed-walk;
     }

@@ -19,5 +19,7 @@ use Rattle.rerank.specs.Rerank.{put, better, least, choose, answer, drive}
 use Rattle.paper.specs.Table.{rows, given, wanted}
 
 pub table : given ≡ wanted
-unfolding packed packedByte join sumTo joined tabulate numAt bit ones planeWord planeOnes planeCount plainSum querySum wordsBit codeOf rounded quotient delOf div sub add neg sum round units odd size span climb ofInt trailingZeros ofBits toBits ofFields rootOf drive lt isNan put better least choose answer
+unfolding packed packedByte join sumTo joined tabulate numAt bit ones planeWord planeOnes planeCount plainSum querySum wordsBit codeOf
+    rounded quotient delOf div sub add neg sum round units odd size span climb ofInt trailingZeros ofBits toBits ofFields rootOf drive
+    lt isNan put better least choose answer
 table = ap (λ (x : ℕ). (x ∷ []) ∷ rows) (full-sum 4369 (8 * codeWords 4369) 15 (omega arith))

@@ -16,7 +16,8 @@ ghost use Rattle.sums.specs.Held.{Query as Codes};
 ghost use Rattle.estimate.specs.Calls.{queryNumber};
 ghost use Rattle.estimate.specs.Record.{laneWords, IsReady};
 ghost use Rattle.estimate.specs.declared.Asked.the-variants.{LowerBound};
-ghost use Rattle.walk.specs.Walk.{layoutOf, recordOf, blocksOf, recordsSize, boundOf, badRecords, badLists, outOfRange, rangeNumber, boundWords, walkAnswer};
+ghost use Rattle.walk.specs.Walk.{layoutOf, recordOf, blocksOf, recordsSize, boundOf, badRecords, badLists};
+ghost use Rattle.walk.specs.Walk.{outOfRange, rangeNumber, boundWords, walkAnswer};
 ghost use Rattle.walk.specs.Parts.{Range, BlockRange, roomOf};
 use estimate::Asked;
 use estimate::Query;
@@ -370,7 +371,8 @@ pub fn walk(
     count: &mut [u8],
 ) -> u32
     ensures { λ r. ⌜ (r, now (ids .exit), now (bounds .exit), now (marks .exit), now (count .exit))
-        ≡ walkAnswer metric layout dims v (now (q .entry)) (now (records .entry)) n start end (now (ids .entry)) (now (bounds .entry)) (now (marks .entry)) (now (count .entry)) ⌝ }
+        ≡ walkAnswer metric layout dims v (now (q .entry)) (now (records .entry)) n start end
+        (now (ids .entry)) (now (bounds .entry)) (now (marks .entry)) (now (count .entry)) ⌝ }
 {
     let lists = bad_lists(ids.len(), bounds.len(), marks.len(), count.len());
     let r = judge(metric, layout, dims, v, q, records.len(), n, lists);

@@ -85,7 +85,8 @@ pub extern "C" fn lk_scalar_table(
     max: &[u8],
     table: &mut [u8],
 ) -> u32
-    ensures { λ r. ⌜ (r, now (table .exit)) ≡ scalar.tableAnswer metric dims bits (now (vector .entry)) (now (min .entry)) (now (max .entry)) (now (table .entry)) ⌝ }
+    ensures { λ r. ⌜ (r, now (table .exit))
+        ≡ scalar.tableAnswer metric dims bits (now (vector .entry)) (now (min .entry)) (now (max .entry)) (now (table .entry)) ⌝ }
 {
     scalar::scalar_table(metric, dims, bits, vector, min, max, table)
 }
@@ -181,7 +182,8 @@ pub extern "C" fn lk_code_rough(
     code: &[u8],
     out: &mut [u8],
 ) -> u32
-    ensures { λ r. ⌜ (r, now (out .exit)) ≡ estimates.codeAnswer Rough metric dims (queryOf «dis_v_2» b k) (now (query .entry)) (now (code .entry)) (now (out .entry)) ⌝ }
+    ensures { λ r. ⌜ (r, now (out .exit))
+        ≡ estimates.codeAnswer Rough metric dims (queryOf «dis_v_2» b k) (now (query .entry)) (now (code .entry)) (now (out .entry)) ⌝ }
 {
     let v = Query { dis_v_2, b, k };
     estimate::code_call(Asked::Rough, metric, dims, v, query, code, out)
@@ -198,7 +200,8 @@ pub extern "C" fn lk_code_lower_bound(
     code: &[u8],
     out: &mut [u8],
 ) -> u32
-    ensures { λ r. ⌜ (r, now (out .exit)) ≡ estimates.codeAnswer LowerBound metric dims (queryOf «dis_v_2» b k) (now (query .entry)) (now (code .entry)) (now (out .entry)) ⌝ }
+    ensures { λ r. ⌜ (r, now (out .exit))
+        ≡ estimates.codeAnswer LowerBound metric dims (queryOf «dis_v_2» b k) (now (query .entry)) (now (code .entry)) (now (out .entry)) ⌝ }
 {
     let v = Query { dis_v_2, b, k };
     estimate::code_call(Asked::LowerBound, metric, dims, v, query, code, out)
@@ -215,7 +218,8 @@ pub extern "C" fn lk_block_rough(
     block: &[u8],
     out: &mut [u8],
 ) -> u32
-    ensures { λ r. ⌜ (r, now (out .exit)) ≡ estimates.blockAnswer Rough metric dims (queryOf «dis_v_2» b k) (now (query .entry)) (now (block .entry)) (now (out .entry)) ⌝ }
+    ensures { λ r. ⌜ (r, now (out .exit))
+        ≡ estimates.blockAnswer Rough metric dims (queryOf «dis_v_2» b k) (now (query .entry)) (now (block .entry)) (now (out .entry)) ⌝ }
 {
     let v = Query { dis_v_2, b, k };
     estimate::block_call(Asked::Rough, metric, dims, v, query, block, out)
@@ -232,7 +236,8 @@ pub extern "C" fn lk_block_lower_bounds(
     block: &[u8],
     out: &mut [u8],
 ) -> u32
-    ensures { λ r. ⌜ (r, now (out .exit)) ≡ estimates.blockAnswer LowerBound metric dims (queryOf «dis_v_2» b k) (now (query .entry)) (now (block .entry)) (now (out .entry)) ⌝ }
+    ensures { λ r. ⌜ (r, now (out .exit))
+        ≡ estimates.blockAnswer LowerBound metric dims (queryOf «dis_v_2» b k) (now (query .entry)) (now (block .entry)) (now (out .entry)) ⌝ }
 {
     let v = Query { dis_v_2, b, k };
     estimate::block_call(Asked::LowerBound, metric, dims, v, query, block, out)
@@ -259,7 +264,8 @@ pub extern "C" fn lk_walk(
     count: &mut [u8],
 ) -> u32
     ensures { λ r. ⌜ (r, now (ids .exit), now (bounds .exit), now (marks .exit), now (count .exit))
-        ≡ walks.walkAnswer metric layout dims (queryOf «dis_v_2» b k) (now (query .entry)) (now (records .entry)) n start end (now (ids .entry)) (now (bounds .entry)) (now (marks .entry)) (now (count .entry)) ⌝ }
+        ≡ walks.walkAnswer metric layout dims (queryOf «dis_v_2» b k) (now (query .entry)) (now (records .entry)) n start end
+        (now (ids .entry)) (now (bounds .entry)) (now (marks .entry)) (now (count .entry)) ⌝ }
 {
     let v = Query { dis_v_2, b, k };
     walk::walk(

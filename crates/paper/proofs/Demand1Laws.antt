@@ -130,7 +130,8 @@ modules-3-4-5 :
     × ((dims : ℕ) (single : List ℕ) (index : ℕ) (out : List ℕ) → Meets (1 ∷ 3 ∷ 6 ∷ []) out (code.bitAnswer dims single index out))
     × ((dims : ℕ) (codes out : List ℕ) → Meets (1 ∷ 3 ∷ []) out (block.packAnswer dims codes out))
     × ((dims : ℕ) (whole : List ℕ) (lane : ℕ) (out : List ℕ) → Meets (1 ∷ 3 ∷ 6 ∷ []) out (block.laneAnswer dims whole lane out))
-unfolding root.rootAnswer root.rootNumber code.encodeAnswer code.encodeNumber code.bitAnswer code.bitNumber block.packAnswer block.packNumber block.laneAnswer block.laneNumber
+unfolding root.rootAnswer root.rootNumber code.encodeAnswer code.encodeNumber code.bitAnswer code.bitNumber block.packAnswer
+    block.packNumber block.laneAnswer block.laneNumber
 modules-3-4-5 = (
   λ x out. meets _ _ (row (badLength out 4) (at refl) (rooted (rootOf x))),
   λ dims factors vector out.
@@ -147,7 +148,9 @@ modules-3-4-5 = (
 )
 
 pub demand-1 : Demand1
-unfolding sizeAnswer sums.querySumAnswer sums.codeSumAnswer sums.blockSumsAnswer estimate.codeAnswer estimate.codeNumber estimate.blockAnswer estimate.recordNumber walk.walkAnswer walk.walkNumber walk.rangeNumber rerank.nextAnswer rerank.nextNumber rerank.supplyAnswer rerank.supplyNumber supplyRefusal
+unfolding sizeAnswer sums.querySumAnswer sums.codeSumAnswer sums.blockSumsAnswer estimate.codeAnswer estimate.codeNumber
+    estimate.blockAnswer estimate.recordNumber walk.walkAnswer walk.walkNumber walk.rangeNumber rerank.nextAnswer rerank.nextNumber
+    rerank.supplyAnswer rerank.supplyNumber supplyRefusal
 demand-1 =
     record {
       lk-digits-size = module-1 .0;

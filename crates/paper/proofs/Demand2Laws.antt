@@ -65,6 +65,5 @@ demand-2 =
       block-again = λ dims whole size byte pad. packed-of-lanes dims whole ∙ block-cleared dims whole size byte pad;
       encoded-pads = λ dims factors vector. pad-of-code dims (λ i. getD factors i 0) (signClear vector) (sign-lt vector);
       lane-estimate = λ asked metric dims v query whole out lanes one k. lane-or-none asked metric dims v query whole out lanes one k;
-      walks = λ metric dims v query codes fill n start end ids bounds marks count.
-          packed-walk metric dims v query codes fill n start end ids bounds marks count;
+      walks = packed-walk;
     }

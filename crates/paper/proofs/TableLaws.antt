@@ -22,7 +22,11 @@ use Rattle.rerank.specs.Demand.{call, told, seen, left, numbers, heard, turn, t
 use Rattle.paper.specs.Table.{Table}
 
 pub table : Table
-unfolding packed packedByte join sumTo joined tabulate numAt bit ones planeWord planeOnes planeCount plainSum querySum wordsBit codeWord codeBit codeOf codeByte kept scalar.codeOf rounded quotient delOf codeAt codesOf scalarCode digitAt bytesOf wordsOf f32At div sub add neg sum round units odd size span climb ofInt trailingZeros ofBits toBits ofFields rootOf lt isNan better least choose answerOf asksFor missing missingAt badMark nextRefusal supplyRefusal counted anyBelow after badLength floatBytes badLists answerBytes nextNumber nextAnswer supplyNumber supplyAnswer call told seen left numbers heard turn turns
+unfolding packed packedByte join sumTo joined tabulate numAt bit ones planeWord planeOnes planeCount plainSum querySum wordsBit codeWord codeBit
+    codeOf codeByte kept scalar.codeOf rounded quotient delOf codeAt codesOf scalarCode digitAt bytesOf wordsOf f32At div sub add neg sum round units
+    odd size span climb ofInt trailingZeros ofBits toBits ofFields rootOf lt isNan better least choose answerOf asksFor missing missingAt badMark
+    nextRefusal supplyRefusal counted anyBelow after badLength floatBytes badLists answerBytes nextNumber nextAnswer supplyNumber supplyAnswer call
+    told seen left numbers heard turn turns
 table =
     record {
       dims-1 = refl;

@@ -3,7 +3,8 @@ use mathlib.Core.Path.{_≡_, refl, sym, ap, subst, _∙_}
 use mathlib.Core.Logic.{_⊎_, inl, inr}
 use mathlib.Core.Bool.{Bool, true, false, not, cond}
 use Prim.Native.Nat.{ℕ, zero, suc, _+_, _-_, _*_, _/_, _%_, _^_, _<_, _≤_}
-use native.Mathlib.Nat.{mul-lt-mul-of-pos-right, mul-le-mul-left, mul-le-mul-right, mul-pos, mul-assoc, mul-comm, mul-right-comm, le-of-mul-le-mul-right, two-pow-succ}
+use native.Mathlib.Nat.{mul-lt-mul-of-pos-right, mul-le-mul-left, mul-le-mul-right, mul-pos, mul-assoc, mul-comm, mul-right-comm}
+use native.Mathlib.Nat.{le-of-mul-le-mul-right, two-pow-succ}
 use native.Mathlib.Decide.{decLt, ℕ-discrete}
 use native.Mathlib.Omega.{arith}
 use borrow.Author.Tests.{ltb-true, ltb-false, lt-ltb, le-ltb, le-leb, lt-leb, eqb-true, eqb-false}

@@ -92,7 +92,8 @@ fn encode_bits(
     hi: &[u8],
     out: &mut [u8],
 )
-    requires { ⌜ Fine dims (now vector) (now lo) (now hi) ⌝ ∗ ⌜ (isWidth bits ≡ true) × (per ≡ perByte bits) × (top ≡ d.top bits) × (dims ≤ mostScalarDims) × (length (now out) ≡ packedSize bits dims) ⌝ }
+    requires { ⌜ Fine dims (now vector) (now lo) (now hi) ⌝
+        ∗ ⌜ (isWidth bits ≡ true) × (per ≡ perByte bits) × (top ≡ d.top bits) × (dims ≤ mostScalarDims) × (length (now out) ≡ packedSize bits dims) ⌝ }
     ensures { λ r. ⌜ now (out .exit) ≡ scalarCode bits dims (now (vector .entry)) (now (lo .entry)) (now (hi .entry)) ⌝ }
 {
     let mut k = 0usize;

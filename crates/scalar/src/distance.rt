@@ -31,7 +31,8 @@ fn add_terms(
     table: &[u8],
     code: &[u8],
 ) -> f32
-    requires { ⌜ (isWidth bits ≡ true) × (n ≡ levels bits) × (dims ≤ mostScalarDims) × (length (now table) ≡ tableSize bits dims) × (length (now code) ≡ packedSize bits dims) × (at * bits % 8 ≡ 0) × (at + m ≤ dims) ⌝ }
+    requires { ⌜ (isWidth bits ≡ true) × (n ≡ levels bits) × (dims ≤ mostScalarDims) × (length (now table) ≡ tableSize bits dims)
+        × (length (now code) ≡ packedSize bits dims) × (at * bits % 8 ≡ 0) × (at + m ≤ dims) ⌝ }
     ensures { λ r. ⌜ r ≡ addedTo s m (λ j. termAt bits (now (table .entry)) (now (code .entry)) (at + j)) ⌝ }
 {
     let first = at * bits / 8;
@@ -52,7 +53,8 @@ fn add_terms(
 // The table entries at the code's digits, added from the left. The group is a parameter, and not the same for every width, so
 // that LLVM unrolls it where the width is known and not before.
 fn sum_bits(bits: usize, n: u32, group: usize, dims: usize, table: &[u8], code: &[u8]) -> f32
-    requires { ⌜ (0 < group) × (group ≤ 8) × (group * bits % 8 ≡ 0) × (isWidth bits ≡ true) × (n ≡ levels bits) × (dims ≤ mostScalarDims) × (length (now table) ≡ tableSize bits dims) × (length (now code) ≡ packedSize bits dims) ⌝ }
+    requires { ⌜ (0 < group) × (group ≤ 8) × (group * bits % 8 ≡ 0) × (isWidth bits ≡ true) × (n ≡ levels bits)
+        × (dims ≤ mostScalarDims) × (length (now table) ≡ tableSize bits dims) × (length (now code) ≡ packedSize bits dims) ⌝ }
     ensures { λ r. ⌜ r ≡ sumOf bits dims (now (table .entry)) (now (code .entry)) ⌝ }
 {
     let mut s: f32 = 0.0;

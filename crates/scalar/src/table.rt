@@ -62,7 +62,8 @@ fn fill_rows(
     hi: &[u8],
     out: &mut [u8],
 )
-    requires { ⌜ Fine dims (now vector) (now lo) (now hi) ⌝ ∗ ⌜ (isWidth bits ≡ true) × (n ≡ levels bits) × (top ≡ d.top bits) × (length (now out) ≡ tableSize bits dims) ⌝ }
+    requires { ⌜ Fine dims (now vector) (now lo) (now hi) ⌝
+        ∗ ⌜ (isWidth bits ≡ true) × (n ≡ levels bits) × (top ≡ d.top bits) × (length (now out) ≡ tableSize bits dims) ⌝ }
     ensures { λ r. ⌜ now (out .exit) ≡ tableBytes m bits dims (now (vector .entry)) (now (lo .entry)) (now (hi .entry)) ⌝ }
 {
     let mut i = 0usize;

@@ -399,7 +399,8 @@ pub fn walk(
     count: &mut [u8],
 ) -> u32
     ensures { λ r. ⌜ (r, now (ids .exit), now (bounds .exit), now (marks .exit), now (count .exit))
-        ≡ walkAnswer metric layout dims v (now (q .entry)) (now (records .entry)) n start end (now (ids .entry)) (now (bounds .entry)) (now (marks .entry)) (now (count .entry)) ⌝ }
+        ≡ walkAnswer metric layout dims v (now (q .entry)) (now (records .entry)) n start end
+        (now (ids .entry)) (now (bounds .entry)) (now (marks .entry)) (now (count .entry)) ⌝ }
 {
     let lists = bad_lists(ids.len(), bounds.len(), marks.len(), count.len());
     let r = judge(metric, layout, dims, v, q, records.len(), n, lists);

@@ -4,7 +4,9 @@ use mathlib.Core.Path.{_≡_, refl, sym, ap, ap₂, _∙_, subst}
 use mathlib.Core.Logic.{_⊎_, inl, inr, ⊎-elim}
 use mathlib.Core.Bool.{Bool, true, false}
 use Prim.Native.Nat.{ℕ, zero, suc, _+_, _*_, _/_, _%_, _^_, _-_, _<_, _≤_, min}
-use native.Mathlib.Nat.{add-zero, zero-add, add-comm, mod-lt, zero-lt-suc, pow-suc, one-mul, mul-comm, mul-assoc, mul-left-comm, mul-suc, mul-zero, zero-mul, zero-min, not-suc-le-zero, le-of-suc-le-suc, min-le-left, min-eq-left, min-eq-right, mod-one, mod-eq-of-lt, div-eq-of-lt, lt-of-le-of-lt, lt-of-lt-of-le, eq-or-lt-of-le, mul-le-mul-right, add-mul-div-right, add-mul-mod-self-right}
+use native.Mathlib.Nat.{add-zero, zero-add, add-comm, mod-lt, zero-lt-suc, pow-suc, one-mul, mul-comm, mul-assoc, mul-left-comm, mul-suc, mul-zero}
+use native.Mathlib.Nat.{zero-mul, zero-min, not-suc-le-zero, le-of-suc-le-suc, min-le-left, min-eq-left, min-eq-right, mod-one, mod-eq-of-lt}
+use native.Mathlib.Nat.{div-eq-of-lt, lt-of-le-of-lt, lt-of-lt-of-le, eq-or-lt-of-le, mul-le-mul-right, add-mul-div-right, add-mul-mod-self-right}
 use native.Mathlib.Numerals.{one-add, add-one}
 use native.Mathlib.Omega.{arith}
 use borrow.Author.Tests.{lt-ltb, le-ltb, ltb-true, ltb-false}

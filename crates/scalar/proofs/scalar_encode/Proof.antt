@@ -21,7 +21,8 @@ judged c =
 
 number : (c : tie.After-refusal) → let k = c .before .before in let a = start k .args in
     c .refusal .result
-    ≡ vectorsNumber (a .dims) (a .vector .now) (a .min .now) (a .max .now) (badLength (a .code .now) (packedSize (bitsOf (k .before .w .given .0 .0)) (a .dims))) false
+    ≡ vectorsNumber (a .dims) (a .vector .now) (a .min .now) (a .max .now)
+    (badLength (a .code .now) (packedSize (bitsOf (k .before .w .given .0 .0)) (a .dims))) false
 unfolding badLength
 number c = c .refusal .ensures ∙ rw (c .before .packed-size .ensures .0) refl
 

@@ -21,7 +21,8 @@ judged c =
 
 number : (c : tie.After-refusal) → let k = c .before .before .before in let a = start k .args in
     c .refusal .result
-    ≡ vectorsNumber (a .dims) (a .vector .now) (a .min .now) (a .max .now) (badLength (a .table .now) (tableSize (bitsOf (k .before .w .given .0 .0)) (a .dims)))
+    ≡ vectorsNumber (a .dims) (a .vector .now) (a .min .now) (a .max .now)
+    (badLength (a .table .now) (tableSize (bitsOf (k .before .w .given .0 .0)) (a .dims)))
     (badForm (a .metric))
 unfolding badLength
 number c = c .refusal .ensures ∙ rw (c .before .before .table-size .ensures, c .before .bad-form .ensures) refl

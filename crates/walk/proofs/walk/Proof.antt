@@ -7,7 +7,8 @@ use Rattle.words.specs.Floats.{anyNan}
 use Rattle.words.specs.Metrics.{metricOf}
 use Rattle.walk.specs.Walk.{layoutOf, rangeNumber, boundWords}
 use Rattle.walk.proofs.WalkLaws.{nans-back}
-use Rattle.walk.proofs.AnswerLaws.{firstNumber, judged, known, inside, someNan, first-number, range-number, nan-number, zero-number, walk-refused, walk-written}
+use Rattle.walk.proofs.AnswerLaws.{firstNumber, judged, known, inside, someNan}
+use Rattle.walk.proofs.AnswerLaws.{first-number, range-number, nan-number, zero-number, walk-refused, walk-written}
 use borrow.Author.Needs.{needs}
 use Rattle.walk.proofs.walk.Statement.{statement}
 use Rattle.walk.proofs.walk.Tie as tie

@@ -7,7 +7,7 @@ any-above-requires : tie.Need-any-above-requires
 any-above-requires c κs = search needs
 
 returns : tie.Need-returns
-returns c = search needs
+returns c = c .any-above .ensures
 
 pub above-top-spec : {M : Type 1} → statement M
 above-top-spec = tie.close (tie.spec any-above-requires returns)

@@ -64,5 +64,7 @@ fn the_program_fails_where_it_should() {
         assert!(code == Some(1) && text.contains(&format!("DIFFERENCE in {}", call.name)), "{text}");
         assert!(text.contains("seed 6, call "), "{text}");
     }
-    assert_eq!(differential(&["--seed"]).1, Some(2));
+    for wrong in [&["--seed"][..], &["--calls"], &["--break", "lk_walk"], &["--break", "lk_walk:no-such-slip"]] {
+        assert_eq!(differential(wrong).1, Some(2), "{wrong:?}");
+    }
 }

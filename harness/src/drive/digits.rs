@@ -18,7 +18,7 @@ pub const CALLS: &[Call] = &[
     Call {
         name: "lk_digits_pack",
         numbers: &[ACCEPTED, BAD_DIMS, BAD_WIDTH, BAD_LENGTH, BAD_VALUE],
-        slips: &["highest-bits-first", "fill-of-ones", "top-is-refused"],
+        slips: &["highest-bits-first", "fill-of-ones", "last-code-left-out", "top-is-refused"],
         go: pack,
         weight: 2,
     },
@@ -107,6 +107,11 @@ fn pack(run: &mut Run) {
                 let mut filled = codes.clone();
                 filled.resize(codes.len().next_multiple_of(8 / bits as usize), top as u8);
                 vec![paper::packed(bits, &filled)]
+            }),
+            "last-code-left-out" => if_accepted(number, &olds, || {
+                let mut codes = codes.clone();
+                *codes.last_mut().unwrap() = 0;
+                vec![paper::packed(bits, &codes)]
             }),
             _ if number == ACCEPTED && codes.iter().any(|code| u64::from(*code) == top) => (BAD_VALUE, olds.to_vec()),
             _ => want,

@@ -14,9 +14,10 @@ mod scalar;
 mod sums;
 mod walk;
 
+use crate::draw::Mood;
 use crate::refusal::{ACCEPTED, NAMES};
 use crate::rng::Rng;
-use crate::trial;
+use crate::{bytes, trial};
 use std::collections::BTreeMap;
 use std::fmt::Write;
 
@@ -52,6 +53,11 @@ pub fn calls() -> Vec<&'static Call> {
 /// Slips that every call can have: now and then one bit of an accepted answer is wrong; an accepted call writes
 /// nothing; a refused call writes a byte; now and then a refusal has the next number.
 pub const SLIPS: [&str; 4] = ["one-bit", "nothing", "touches", "number"];
+
+/// Whether there is such a call, and it or every call can have this slip.
+pub fn is_slip(call: &str, slip: &str) -> bool {
+    calls().iter().any(|known| known.name == call && (known.slips.contains(&slip) || SLIPS.contains(&slip)))
+}
 
 pub struct Run {
     pub rng: Rng,
@@ -99,8 +105,9 @@ impl Run {
         }
     }
 
-    /// Puts a copy with a slip in the place of one call.
+    /// Puts a copy with a slip in the place of one call. A slip that the call does not have is no slip at all.
     pub fn broken(seed: u64, call: &str, slip: &str) -> Run {
+        assert!(is_slip(call, slip), "{call} has no slip {slip}");
         Run { broken: Some((call.to_string(), slip.to_string())), ..Run::new(seed) }
     }
 
@@ -221,4 +228,31 @@ fn one(answer: (u32, Vec<u8>)) -> Answer {
 /// A refusal that keeps `olds`, or an accepted answer.
 fn if_accepted(number: u32, olds: &[Vec<u8>], news: impl FnOnce() -> Vec<Vec<u8>>) -> Answer {
     (number, if number == ACCEPTED { news() } else { olds.to_vec() })
+}
+
+/// A call that writes the size of a code or of a block.
+struct Size {
+    call: fn(u32, &mut [u8]) -> u32,
+    paper: fn(u32, &[u8]) -> (u32, Vec<u8>),
+    rust: fn(u32) -> u32,
+    /// The size that the broken copy gives.
+    slipped: fn(u32) -> u32,
+}
+
+fn size(run: &mut Run, size: Size) {
+    let mood = Mood::new(&mut run.rng);
+    let dims = run.rng.rabitq_dims(&mood);
+    let len = mood.length(&mut run.rng, 4);
+    let olds = [run.rng.bytes(len)];
+    let want = one((size.paper)(dims, &olds[0]));
+    let number = want.0;
+    let by = |size: fn(u32) -> u32| if_accepted(number, &olds, || vec![bytes::of_words(&[size(dims)])]);
+    run.hold(
+        || format!("dims {dims}, out of {len}"),
+        &olds,
+        |lent| (size.call)(dims, lent[0]),
+        want,
+        || (number == ACCEPTED).then(|| by(size.rust)),
+        |_| by(size.slipped),
+    );
 }

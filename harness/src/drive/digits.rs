@@ -1,11 +1,11 @@
 //! Module 1.
 
 use super::{if_accepted, one, Call, Run};
-use crate::digits;
 use crate::draw::Mood;
 use crate::paper::digits as paper;
 use crate::refusal::*;
 use crate::upstream::utils::{merge_2, merge_4, merge_8, InfiniteByteChunks};
+use crate::{bytes, digits, rust};
 
 pub const CALLS: &[Call] = &[
     Call {
@@ -63,8 +63,8 @@ fn size(run: &mut Run) {
         &olds,
         |lent| digits::size(dims, bits, lent[0]),
         want.clone(),
-        || None,
-        |_| if_accepted(want.0, &olds, || vec![(dims * bits / 8).to_le_bytes().to_vec()]),
+        || (want.0 == ACCEPTED).then(|| (ACCEPTED, vec![bytes::of_words(&[rust::digits_size(dims, bits)])])),
+        |_| if_accepted(want.0, &olds, || vec![bytes::of_words(&[dims * bits / 8])]),
     );
 }
 

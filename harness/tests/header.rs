@@ -70,6 +70,24 @@ fn the_header_and_sys_declare_the_same() {
     assert_eq!(header, sys);
 }
 
+/// The header's list of refusals is that of the driver, which reaches each of them and meets no other.
+#[test]
+fn the_header_lists_the_refusals_of_each_call() {
+    let header = include_str!("../../include/lintelkite.h");
+    let listed: BTreeMap<&str, Vec<u32>> = header
+        .lines()
+        .filter_map(|line| line.strip_prefix(" *   lk_").map(|_| &line[" *   ".len()..]))
+        .map(|line| {
+            let (name, numbers) = line.split_once(' ').unwrap();
+            (name, numbers.split_whitespace().map(|number| number.parse().unwrap()).collect())
+        })
+        .collect();
+    let calls = harness::drive::calls().into_iter().filter(|call| call.name.starts_with("lk_"));
+    let driven: BTreeMap<&str, Vec<u32>> = calls.map(|call| (call.name, call.numbers[1..].to_vec())).collect();
+    assert_eq!(listed, driven);
+    assert_eq!(listed.len(), c_functions(header).len());
+}
+
 #[test]
 fn the_header_and_refusal_number_alike() {
     let header = bare_c(include_str!("../../include/lintelkite.h"));

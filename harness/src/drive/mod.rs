@@ -20,6 +20,7 @@ use crate::rng::Rng;
 use crate::{bytes, trial};
 use std::collections::BTreeMap;
 use std::fmt::Write;
+use std::panic::{catch_unwind, AssertUnwindSafe};
 
 /// A number and the bytes of every writable buffer.
 pub type Answer = (u32, Vec<Vec<u8>>);
@@ -111,11 +112,20 @@ impl Run {
         Run { broken: Some((call.to_string(), slip.to_string())), ..Run::new(seed) }
     }
 
-    /// Tries one call. A difference is kept, and the run should end with it.
+    /// Tries one call. A difference is kept, and the run should end with it. A panic is one, too: a byte outside of the
+    /// lent buffers was written, or a search came to an end that it must not come to.
     pub fn try_call(&mut self, call: &Call) -> Option<&str> {
         self.call = call.name;
-        (call.go)(self);
+        if let Err(why) = catch_unwind(AssertUnwindSafe(|| (call.go)(self))) {
+            let said = why.downcast_ref::<String>().map(String::as_str).or(why.downcast_ref::<&str>().copied());
+            self.differs(said.unwrap_or("a panic"), "that of this call");
+        }
         self.difference.as_deref()
+    }
+
+    fn differs(&mut self, found: &str, input: &str) {
+        let (call, seed, made) = (self.call, self.seed, self.made);
+        self.difference = Some(format!("{call}: {found}\nseed {seed}, call {made}\ninput: {input}"));
     }
 
     pub fn made(&self) -> u64 {
@@ -191,8 +201,7 @@ impl Run {
             }
         }
         if let Some(found) = found {
-            let (call, seed, made) = (self.call, self.seed, self.made);
-            self.difference = Some(format!("{call}: {found}\nseed {seed}, call {made}\ninput: {}", input()));
+            self.differs(&found, &input());
         }
     }
 

@@ -111,7 +111,14 @@ fn bit(run: &mut Run) {
     let code = rng.bytes(len);
     let near = rng.below(dims.clamp(1, 5_000) as usize) as u32;
     let index = if mood.hurt(rng) {
-        rng.pick(&[dims, dims.wrapping_add(1), dims.max(1).next_multiple_of(64), 4_370, 1 << 31, u32::MAX])
+        rng.pick(&[
+            dims,
+            dims.wrapping_add(1),
+            dims.max(1).checked_next_multiple_of(64).unwrap_or(0),
+            4_370,
+            1 << 31,
+            u32::MAX,
+        ])
     } else {
         near
     };

@@ -12,7 +12,8 @@ fn main() {
     let root = Path::new(&env::var_os("CARGO_MANIFEST_DIR").unwrap()).parent().unwrap().to_path_buf();
     let out = PathBuf::from(env::var_os("OUT_DIR").unwrap());
     println!("cargo:rerun-if-env-changed=LINTELKITE_ARCHIVE");
-    let archive = match env::var_os("LINTELKITE_ARCHIVE") {
+    // An empty one is as good as none.
+    let archive = match env::var_os("LINTELKITE_ARCHIVE").filter(|path| !path.is_empty()) {
         Some(path) => {
             println!("cargo:rerun-if-changed={}", Path::new(&path).display());
             PathBuf::from(path)

@@ -29,14 +29,41 @@ enum lk_refusal {
     LK_ACCEPTED = 0,
     LK_BAD_DIMS = 1,     /* dims is 0 or above the limit: 65,535 for digits and the scalar quantizer, else 4,369 */
     LK_BAD_WIDTH = 2,    /* bits is not 1, 2, 4 or 8 */
-    LK_BAD_LENGTH = 3,   /* a buffer is not of the length stated here */
-    LK_MISSING = 4,      /* a NaN or an infinity where a finite number is asked for */
-    LK_BAD_VALUE = 5,    /* a code above the top, or another value that its kind does not have */
+    LK_BAD_LENGTH = 3,   /* a buffer is not of the length stated here, or a walk has more than 1,048,576 records */
+    LK_MISSING = 4,      /* a NaN or an infinity where a finite number is asked for; of estimates and distances a NaN
+                          * alone; a root of a number below 0 */
+    LK_BAD_VALUE = 5,    /* a code above the top, min above max, dis_v_2 below 0, or a metric, a layout or a mark that
+                          * is none */
     LK_OUT_OF_RANGE = 6, /* an index or a range past the end */
     LK_NO_ROOM = 7,      /* more ids than places for them */
     LK_NO_ESTIMATE = 8,  /* the number asked for is a NaN */
     LK_NOT_ASKED = 9     /* a distance for a place that is not asked for now */
 };
+/* The refusals that each call can give:
+ *   lk_digits_size         1 2 3
+ *   lk_digits_pack         1 2 3 5
+ *   lk_digits_read         1 2 3 6
+ *   lk_scalar_encode       1 2 3 4 5
+ *   lk_scalar_table        1 2 3 4 5
+ *   lk_scalar_distance     1 2 3 5 8
+ *   lk_root                3 4
+ *   lk_code_size           1 3
+ *   lk_code_encode         1 3 4
+ *   lk_code_bit            1 3 6
+ *   lk_block_size          1 3
+ *   lk_block_pack          1 3
+ *   lk_block_lane          1 3 6
+ *   lk_query_sum           1 3 5
+ *   lk_code_sum            1 3 5
+ *   lk_block_sums          1 3 5
+ *   lk_code_rough          1 3 4 5 8
+ *   lk_code_lower_bound    1 3 4 5 8
+ *   lk_block_rough         1 3 4 5
+ *   lk_block_lower_bounds  1 3 4 5
+ *   lk_walk                1 3 4 5 6 7 8
+ *   lk_rerank_next         3 4 5
+ *   lk_rerank_supply       3 4 5 9
+ */
 enum lk_metric { LK_L2 = 1, LK_DOT = 2 };
 enum lk_layout { LK_SINGLE = 1, LK_BLOCKS = 2 };
 enum lk_mark { LK_WAITING = 0, LK_ASKED = 1, LK_GIVEN = 2 };
@@ -103,9 +130,10 @@ uint32_t lk_block_lower_bounds(uint32_t metric, uint32_t dims, float dis_v_2, fl
                                const uint8_t *query, size_t query_len, const uint8_t *block, size_t block_len,
                                uint8_t *out, size_t out_len);
 
-/* ---- module 8, range walk. records: n single codes, or ceil(n / 32) blocks. ids: 4 bytes a place, bounds: 4 bytes
- *      a place, marks: 1 byte a place, the same number of places in each, at most 4,096. count: a 32-bit number
- *      (4 bytes), how many places were filled from the first on; the places after them stay as they were */
+/* ---- module 8, range walk. records: n single codes, or ceil(n / 32) blocks, n at most 1,048,576. ids: 4 bytes a
+ *      place, bounds: 4 bytes a place, marks: 1 byte a place, the same number of places in each, at most 4,096.
+ *      count: a 32-bit number (4 bytes), how many places were filled from the first on; the places after them stay
+ *      as they were */
 uint32_t lk_walk(uint32_t metric, uint32_t layout, uint32_t dims, float dis_v_2, float b, float k,
                  const uint8_t *query, size_t query_len, const uint8_t *records, size_t records_len,
                  uint32_t n, uint32_t start, uint32_t end,
@@ -114,7 +142,8 @@ uint32_t lk_walk(uint32_t metric, uint32_t layout, uint32_t dims, float dis_v_2,
 
 /* ---- module 9, reranker. estimates and distances: 4 bytes a place, marks: 1 byte a place, one number of places
  *      from 0 to 4,096. next's out is 16 bytes: the answer (enum lk_answer), the place (0 when Done), the distance
- *      (a float at Give, else 0), and the count of asked. supply's out is 4 bytes: the count of asked */
+ *      (a float at Give, else 0), and the count of asked. supply's out is 4 bytes: the count of asked.
+ *      Where no distance is below its estimate, distances never fall. Each candidate is given once in any case */
 uint32_t lk_rerank_next(const uint8_t *estimates, size_t estimates_len, const uint8_t *distances, size_t distances_len,
                         uint8_t *marks, size_t marks_len, uint8_t *out, size_t out_len);
 uint32_t lk_rerank_supply(const uint8_t *estimates, size_t estimates_len, uint8_t *distances, size_t distances_len,

@@ -1,4 +1,5 @@
-//! Finds liblintelkite.a and links a copy of it. In this order:
+//! Finds liblintelkite.a and links a copy of it. Paths are whole ones: cargo runs this in the crate's own folder. In this
+//! order:
 //!
 //! 1. LINTELKITE_ARCHIVE names the archive.
 //! 2. LINTELKITE_PREFIX is what `make install PREFIX=..` was given: the archive is lib/liblintelkite.a in it.

@@ -3,26 +3,20 @@
 use crate::paper::estimate::{Asked, Query};
 use crate::sys;
 
+type Call = unsafe extern "C" fn(u32, u32, f32, f32, f32, *const u8, usize, *const u8, usize, *mut u8, usize) -> u32;
+
+fn ask(call: Call, query: Query, record: &[u8], out: &mut [u8]) -> u32 {
+    let Query { metric, dims, dis_v_2, b, k, codes } = query;
+    let (c, r, o) = (codes.as_ptr(), record.as_ptr(), out.as_mut_ptr());
+    unsafe { call(metric, dims, dis_v_2, b, k, c, codes.len(), r, record.len(), o, out.len()) }
+}
+
 pub fn code(query: Query, asked: Asked, code: &[u8], out: &mut [u8]) -> u32 {
     let call = match asked {
         Asked::Rough => sys::lk_code_rough,
         Asked::LowerBound => sys::lk_code_lower_bound,
     };
-    unsafe {
-        call(
-            query.metric,
-            query.dims,
-            query.dis_v_2,
-            query.b,
-            query.k,
-            query.codes.as_ptr(),
-            query.codes.len(),
-            code.as_ptr(),
-            code.len(),
-            out.as_mut_ptr(),
-            out.len(),
-        )
-    }
+    ask(call, query, code, out)
 }
 
 pub fn block(query: Query, asked: Asked, block: &[u8], out: &mut [u8]) -> u32 {
@@ -30,19 +24,5 @@ pub fn block(query: Query, asked: Asked, block: &[u8], out: &mut [u8]) -> u32 {
         Asked::Rough => sys::lk_block_rough,
         Asked::LowerBound => sys::lk_block_lower_bounds,
     };
-    unsafe {
-        call(
-            query.metric,
-            query.dims,
-            query.dis_v_2,
-            query.b,
-            query.k,
-            query.codes.as_ptr(),
-            query.codes.len(),
-            block.as_ptr(),
-            block.len(),
-            out.as_mut_ptr(),
-            out.len(),
-        )
-    }
+    ask(call, query, block, out)
 }

@@ -4,13 +4,14 @@
 //! wrappers: they take slices of any length, so that damaged input can be tried, and return the refusal number.
 //! `paper` is a plain reading of the paper to compare with, and `upstream` is the Rust that is ported. Neither shares a
 //! line with the library. `rust` calls that Rust on the buffers of the C functions. `drive` tries every call on random
-//! input, and `bench` measures.
+//! input, and `bench` measures. `program` finds the proved programs for the tests that run them.
 
 pub mod bench;
 pub mod bytes;
 pub mod draw;
 pub mod drive;
 pub mod paper;
+pub mod program;
 pub mod refusal;
 pub mod rng;
 pub mod rust;

@@ -64,6 +64,10 @@ pub fn ours(block: &[u8]) -> Vec<u8> {
 
 // ---- scalar quantizer
 
+pub fn digits_size(dims: u32, bits: u32) -> u32 {
+    ScalarQuantizer { dims, bits, min: vec![], max: vec![] }.code_size()
+}
+
 pub fn scalar_encode(dims: u32, bits: u32, vector: &[f32], min: &[f32], max: &[f32]) -> Vec<u8> {
     ScalarQuantizer { dims, bits, min: min.to_vec(), max: max.to_vec() }.encode(vector)
 }

@@ -86,6 +86,22 @@ pub fn all(
     number.unwrap()
 }
 
+/// The same for a call that is lent buffers of given contents and an output of `len` bytes after them.
+pub fn with_out(
+    what: &str,
+    olds: &[&[u8]],
+    len: usize,
+    call: impl Fn(&mut [&mut [u8]]) -> u32,
+    want: impl Fn(&[u8]) -> (u32, Vec<Vec<u8>>),
+) -> u32 {
+    let mut number = None;
+    for (offset, fill) in FILLS.iter().enumerate() {
+        let out: Vec<u8> = (0..len).map(fill).collect();
+        number = Some(given(what, offset, &[olds, &[&out]].concat(), &call, want(&out)));
+    }
+    number.unwrap()
+}
+
 /// The same for a call that writes one buffer.
 pub fn one(what: &str, len: usize, call: impl Fn(&mut [u8]) -> u32, want: impl Fn(&[u8]) -> (u32, Vec<u8>)) -> u32 {
     all(
@@ -104,10 +120,10 @@ pub fn panics<R>(f: impl FnOnce() -> R) -> bool {
     catch_unwind(AssertUnwindSafe(f)).is_err()
 }
 
-/// Runs `f` on a stack of 256 KiB, which every call must do with. The harness's own frames get 16 KiB more.
-pub fn on_a_small_stack<R: Send>(f: impl FnOnce() -> R + Send) -> R {
+/// Runs `f` on a stack of so many KiB, as the header states them. The harness's own frames get 16 KiB more.
+pub fn on_a_stack_of<R: Send>(kib: usize, f: impl FnOnce() -> R + Send) -> R {
     thread::scope(|scope| {
-        let small = thread::Builder::new().stack_size((256 + 16) * 1024);
+        let small = thread::Builder::new().stack_size((kib + 16) * 1024);
         small.spawn_scoped(scope, f).unwrap().join().unwrap()
     })
 }

@@ -102,6 +102,9 @@ fn the_round_trip_both_ways() {
             assert_eq!(lane(dims, &block, k as u32), no_pad(dims, single), "lane {k} of {dims} dims");
         }
         let other = rng.bytes(size_of(dims));
+        for k in 0..32 {
+            assert_eq!(try_lane(dims, &other, k, code::size_of(dims)), 0);
+        }
         let lanes: Vec<u8> = (0..32).flat_map(|k| lane(dims, &other, k)).collect();
         let again = pack(dims, &lanes);
         assert_eq!(again[..512], other[..512]);

@@ -2,32 +2,16 @@
 //! damaged files what is wrong with them.
 
 use harness::cabinet::{random, Cabinet, DOT, L2};
+use harness::program::{built, root};
 use harness::rng::Rng;
 use std::path::{Path, PathBuf};
-use std::process::{Command, Stdio};
+use std::process::Command;
 use std::sync::OnceLock;
 use std::{env, fs};
 
-fn root() -> PathBuf {
-    Path::new(env!("CARGO_MANIFEST_DIR")).parent().unwrap().to_path_buf()
-}
-
-/// target/bin/cabinet, which `rt check cabinet` proves and builds where it is not there.
 fn program() -> &'static Path {
     static PROGRAM: OnceLock<PathBuf> = OnceLock::new();
-    PROGRAM.get_or_init(|| {
-        let program = root().join("target/bin/cabinet");
-        if !program.exists() {
-            let built = Command::new("rt")
-                .args(["check", "cabinet"])
-                .current_dir(root())
-                .stdin(Stdio::null())
-                .output()
-                .expect("rt runs");
-            assert!(built.status.success(), "rt check cabinet: {}", String::from_utf8_lossy(&built.stdout));
-        }
-        program
-    })
+    PROGRAM.get_or_init(|| built("cabinet"))
 }
 
 /// A folder of its own for a test, removed at the end.

@@ -1,6 +1,6 @@
 //! The differential driver finds what it is there to find.
 
-use harness::drive::{calls, Run, SLIPS};
+use harness::drive::{calls, Call, Run, SLIPS};
 use std::process::Command;
 
 /// Every number of every call is reached, with no difference.
@@ -39,6 +39,15 @@ fn every_slip_is_found() {
     assert_eq!(missed, Vec::<String>::new());
 }
 
+/// A guard byte that was written ends in a panic, and the run tells where.
+#[test]
+fn a_panic_is_a_difference() {
+    let call = Call { name: "lk_root", numbers: &[], slips: &[], go: |_| panic!("a guard byte"), weight: 1 };
+    let mut run = Run::new(7);
+    let told = run.try_call(&call).unwrap();
+    assert!(told.contains("lk_root: a guard byte") && told.contains("seed 7, call 0"), "{told}");
+}
+
 /// What the program prints and whether it exits with 0.
 fn differential(arguments: &[&str]) -> (String, Option<i32>) {
     let ran = Command::new(env!("CARGO_BIN_EXE_differential")).args(arguments).output().unwrap();
@@ -64,5 +73,7 @@ fn the_program_fails_where_it_should() {
         assert!(code == Some(1) && text.contains(&format!("DIFFERENCE in {}", call.name)), "{text}");
         assert!(text.contains("seed 6, call "), "{text}");
     }
-    assert_eq!(differential(&["--seed"]).1, Some(2));
+    for wrong in [&["--seed"][..], &["--calls"], &["--break", "lk_walk"], &["--break", "lk_walk:no-such-slip"]] {
+        assert_eq!(differential(wrong).1, Some(2), "{wrong:?}");
+    }
 }

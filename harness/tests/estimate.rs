@@ -184,7 +184,7 @@ fn boundaries_in_every_place() {
     }
 }
 
-/// A call takes at most 256 KiB of stack.
+/// A call on a single code takes at most 4 KiB of stack, one on a block 72 KiB.
 #[test]
 fn a_small_stack_is_enough() {
     let codes = vec![15; 4_369];
@@ -192,8 +192,8 @@ fn a_small_stack_is_enough() {
     for asked in BOTH {
         let query = sound(1, &codes);
         let (mut out, mut lanes) = ([0xEE; 4], [0xEE; 128]);
-        assert_eq!(trial::on_a_small_stack(|| estimate::code(query, asked, &single, &mut out)), 0);
-        assert_eq!(trial::on_a_small_stack(|| estimate::block(query, asked, &packed, &mut lanes)), 0);
+        assert_eq!(trial::on_a_stack_of(4, || estimate::code(query, asked, &single, &mut out)), 0);
+        assert_eq!(trial::on_a_stack_of(72, || estimate::block(query, asked, &packed, &mut lanes)), 0);
     }
 }
 

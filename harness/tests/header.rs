@@ -70,6 +70,43 @@ fn the_header_and_sys_declare_the_same() {
     assert_eq!(header, sys);
 }
 
+/// The header's list of refusals is that of the driver, which reaches each of them and meets no other.
+#[test]
+fn the_header_lists_the_refusals_of_each_call() {
+    let header = include_str!("../../include/lintelkite.h");
+    let listed: BTreeMap<&str, Vec<u32>> = header
+        .lines()
+        .filter_map(|line| line.strip_prefix(" *   lk_").map(|_| &line[" *   ".len()..]))
+        .map(|line| {
+            let (name, numbers) = line.split_once(' ').unwrap();
+            (name, numbers.split_whitespace().map(|number| number.parse().unwrap()).collect())
+        })
+        .collect();
+    assert_eq!(listed, driven());
+    assert_eq!(listed.len(), c_functions(header).len());
+}
+
+/// The refusals of each C function, as the driver has them.
+fn driven() -> BTreeMap<&'static str, Vec<u32>> {
+    let calls = harness::drive::calls().into_iter().filter(|call| call.name.starts_with("lk_"));
+    calls.map(|call| (call.name, call.numbers[1..].to_vec())).collect()
+}
+
+/// So is that of docs/PROMISES.md, where a call's entry begins "- **lk_" and has its refusals in the same line.
+#[test]
+fn the_promises_list_the_refusals_of_each_call() {
+    let mut listed = BTreeMap::new();
+    for line in include_str!("../../docs/PROMISES.md").lines().filter(|line| line.starts_with("- **lk_")) {
+        let (_, numbers) = line.split_once("Refusals ").unwrap_or_else(|| panic!("{line}"));
+        let (numbers, _) = numbers.split_once('.').unwrap();
+        let numbers: Vec<u32> = numbers.split(", ").map(|number| number.parse().unwrap()).collect();
+        for name in line.split("**").filter(|piece| piece.starts_with("lk_")) {
+            listed.insert(name, numbers.clone());
+        }
+    }
+    assert_eq!(listed, driven());
+}
+
 #[test]
 fn the_header_and_refusal_number_alike() {
     let header = bare_c(include_str!("../../include/lintelkite.h"));

@@ -8,42 +8,30 @@ use harness::rust::Event::{self, Ask, Give};
 use harness::{paper, rerank, rust, sys, trial};
 use std::ptr::{null, null_mut};
 
-const FILLS: [fn(usize) -> u8; 3] = [|_| 0x00, |_| 0xFF, |i| (i * 37 + 11) as u8];
-
 fn try_next(estimates: &[u8], distances: &[u8], marks: &[u8], len: usize) -> u32 {
-    let mut number = 0;
-    for (offset, fill) in FILLS.iter().enumerate() {
-        let old: Vec<u8> = (0..len).map(fill).collect();
-        number = trial::given(
-            &format!("next of {:?}, {:?}, {marks:?}, out of {len}", floats(estimates), floats(distances)),
-            offset,
-            &[marks, &old],
-            |lent| match lent {
-                [marks, out] => rerank::next(estimates, distances, marks, out),
-                _ => unreachable!(),
-            },
-            paper::rerank::next(estimates, distances, marks, &old),
-        );
-    }
-    number
+    trial::with_out(
+        &format!("next of {:?}, {:?}, {marks:?}, out of {len}", floats(estimates), floats(distances)),
+        &[marks],
+        len,
+        |lent| match lent {
+            [marks, out] => rerank::next(estimates, distances, marks, out),
+            _ => unreachable!(),
+        },
+        |old| paper::rerank::next(estimates, distances, marks, old),
+    )
 }
 
 fn try_supply(estimates: &[u8], distances: &[u8], marks: &[u8], place: u32, distance: f32, len: usize) -> u32 {
-    let mut number = 0;
-    for (offset, fill) in FILLS.iter().enumerate() {
-        let old: Vec<u8> = (0..len).map(fill).collect();
-        number = trial::given(
-            &format!("supply {place} {distance} to {:?}, {:?}, {marks:?}", floats(estimates), floats(distances)),
-            offset,
-            &[distances, marks, &old],
-            |lent| match lent {
-                [distances, marks, out] => rerank::supply(estimates, distances, marks, place, distance, out),
-                _ => unreachable!(),
-            },
-            paper::rerank::supply(estimates, distances, marks, place, distance, &old),
-        );
-    }
-    number
+    trial::with_out(
+        &format!("supply {place} {distance} to {:?}, {:?}, {marks:?}", floats(estimates), floats(distances)),
+        &[distances, marks],
+        len,
+        |lent| match lent {
+            [distances, marks, out] => rerank::supply(estimates, distances, marks, place, distance, out),
+            _ => unreachable!(),
+        },
+        |old| paper::rerank::supply(estimates, distances, marks, place, distance, old),
+    )
 }
 
 fn search(estimates: &[f32], distances: &[f32]) -> Vec<Event> {
@@ -300,8 +288,10 @@ fn bad_lengths_come_first() {
                 assert_eq!(try_supply(&nan[..n], &nan[..wrong], &marks, 0, f32::NAN, 4), 3);
             }
         }
-        assert_eq!(try_next(&nan[..n], &nan[..n], &vec![9; places + 1], 16), 3);
-        assert_eq!(try_supply(&nan[..n], &nan[..n], &vec![9; places + 1], 0, f32::NAN, 4), 3);
+        for wrong in std::iter::once(places + 1).chain(places.checked_sub(1)) {
+            assert_eq!(try_next(&nan[..n], &nan[..n], &vec![9; wrong], 16), 3);
+            assert_eq!(try_supply(&nan[..n], &nan[..n], &vec![9; wrong], 0, f32::NAN, 4), 3);
+        }
         for wrong in [0, 3, 4, 8, 12, 15, 17, 20] {
             assert_eq!(try_next(&nan[..n], &nan[..n], &marks, wrong), 3);
         }
@@ -333,6 +323,10 @@ fn then_what_is_missing() {
                         _ => 5,
                     };
                     assert_eq!(try_next(&fine, &bad, &marks, 16), number);
+                    // The place that is asked for now, or one that isn't where none is: a NaN that is held comes first.
+                    let waits = marks.iter().position(|mark| *mark == 0).unwrap_or(n);
+                    let supplied = if number == 0 && waits == n { 9 } else { number };
+                    assert_eq!(try_supply(&fine, &bad, &marks, waits as u32, 2.0, 4), supplied);
                     // A NaN supplied is 4 wherever it is for, and before a bad mark.
                     for to in [0, place as u32, n as u32, u32::MAX] {
                         assert_eq!(try_supply(&fine, &fine, &marks, to, nan, 4), 4);

@@ -396,9 +396,13 @@ fn null_and_lengths_past_32_bits() {
         assert_eq!(sys::lk_scalar_encode(1, 8, f, 4, f, far + 4, f, 4, o, 1), 3);
         assert_eq!(sys::lk_scalar_encode(1, 8, f, 4, f, 4, f, far + 4, o, 1), 3);
         assert_eq!(sys::lk_scalar_encode(1, 8, f, 4, f, 4, f, 4, o, far + 1), 3);
+        assert_eq!(sys::lk_scalar_table(1, 1, 1, f, far + 4, f, 4, f, 4, o, 8), 3);
+        assert_eq!(sys::lk_scalar_table(1, 1, 1, f, 4, f, far + 4, f, 4, o, 8), 3);
+        assert_eq!(sys::lk_scalar_table(1, 1, 1, f, 4, f, 4, f, far + 4, o, 8), 3);
         assert_eq!(sys::lk_scalar_table(1, 1, 1, f, 4, f, 4, f, 4, o, far + 8), 3);
         assert_eq!(sys::lk_scalar_distance(1, 1, 1, f, far + 8, f, 1, o, 4), 3);
         assert_eq!(sys::lk_scalar_distance(1, 1, 1, f, 8, f, far + 1, o, 4), 3);
+        assert_eq!(sys::lk_scalar_distance(1, 1, 1, f, 8, f, 1, o, far + 4), 3);
     }
     assert_eq!(out, [0xEE; 8]);
 }

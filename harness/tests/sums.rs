@@ -136,14 +136,14 @@ fn each_place_counts_its_own_code() {
     }
 }
 
-/// A call takes at most 256 KiB of stack.
+/// A call on a single code takes at most 4 KiB of stack, one on a block 72 KiB.
 #[test]
 fn a_small_stack_is_enough() {
     let query = vec![15; 4_369];
     let (single, packed) = (vec![0xFF; code::size_of(4_369)], vec![0xFF; block::size_of(4_369)]);
     let (mut out, mut lanes) = ([0xEE; 4], [0xEE; 128]);
-    assert_eq!(trial::on_a_small_stack(|| sums::code(4_369, &query, &single, &mut out)), 0);
-    assert_eq!(trial::on_a_small_stack(|| sums::block(4_369, &query, &packed, &mut lanes)), 0);
+    assert_eq!(trial::on_a_stack_of(4, || sums::code(4_369, &query, &single, &mut out)), 0);
+    assert_eq!(trial::on_a_stack_of(72, || sums::block(4_369, &query, &packed, &mut lanes)), 0);
     assert_eq!((words(&out), words(&lanes)), (vec![65_535], vec![65_535; 32]));
 }
 
@@ -217,6 +217,8 @@ fn null_and_lengths_past_32_bits() {
         assert_eq!(sys::lk_query_sum(1, l, 1, o, far + 4), 3);
         assert_eq!(sys::lk_code_sum(1, l, 1, l, far + 24, o, 4), 3);
         assert_eq!(sys::lk_code_sum(1, l, far + 1, l, 24, o, 4), 3);
+        assert_eq!(sys::lk_code_sum(1, l, 1, l, 24, o, far + 4), 3);
+        assert_eq!(sys::lk_block_sums(1, l, far + 1, l, 528, o, 128), 3);
         assert_eq!(sys::lk_block_sums(1, l, 1, l, far + 528, o, 128), 3);
         assert_eq!(sys::lk_block_sums(1, l, 1, l, 528, o, far + 128), 3);
     }

@@ -159,7 +159,31 @@ fn the_most_records_and_the_most_places() {
     }
 }
 
-/// A call takes at most 256 KiB of stack.
+/// 4,096 ids that begin inside a block reach into 129 blocks, the most that a walk can meet.
+#[test]
+fn the_most_blocks() {
+    let mut rng = Rng::new(7);
+    let codes = rng.query(3);
+    let records = singles(&mut rng, 3, 4_200, mild);
+    let packed = blocks(3, &records);
+    for metric in [1, 2] {
+        for start in [31, 37, 64, 104] {
+            let w = |layout, records| Walk {
+                query: sound(metric, &codes),
+                layout,
+                records,
+                n: 4_200,
+                start,
+                end: start + 4_096,
+            };
+            let (single, block) = (w(1, &records[..]), w(2, &packed[..]));
+            assert_eq!((try_walk(single, lens(4_096)), try_walk(block, lens(4_096))), (0, 0));
+            assert_eq!(found(single, 4_096), found(block, 4_096), "from {start} on");
+        }
+    }
+}
+
+/// A walk takes at most 88 KiB of stack.
 #[test]
 fn a_small_stack_is_enough() {
     let mut rng = Rng::new(6);
@@ -170,7 +194,7 @@ fn a_small_stack_is_enough() {
         let w = Walk { query: sound(1, &codes), layout, records, n: 64, start: 0, end: 64 };
         let mut lists = lens(4_096).map(|len| vec![0xEE; len]);
         let [ids, bounds, marks, count] = &mut lists;
-        assert_eq!(trial::on_a_small_stack(|| walk::walk(w, ids, bounds, marks, count)), 0);
+        assert_eq!(trial::on_a_stack_of(88, || walk::walk(w, ids, bounds, marks, count)), 0);
         assert_eq!(words(&lists[3]), [64]);
     }
 }

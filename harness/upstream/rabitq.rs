@@ -16,6 +16,7 @@
 // Changed: the crates `base` and `detect` cannot be had. `train`, `project`, `code` and the two preprocesses rest on
 // `ScalarLike` and are cut, so `encode` and `fscan_encode` take what `code` returns, and a Lut is made by its caller.
 // Generics over the scalar are gone; `multiversion` is a choice by detect.rs. `divide` stands outside of its function.
+// The metrics that are not ported, the graph reranker and what only forwards are cut; what the harness calls is `pub`.
 
 use crate::upstream::base::AlwaysEqual;
 use crate::upstream::base::Distance;

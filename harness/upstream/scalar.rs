@@ -14,7 +14,8 @@
 // limitations under the License.
 //
 // Changed: the crate `base` cannot be had. A vector is a slice of f32 and the generics over the scalar and the operator are
-// gone with it. `train`, the block scan and the rerankers are cut.
+// gone with it. `train`, `project`, the block scan, the rerankers, what only forwards and the metrics that are not ported are
+// cut; what the harness calls is `pub`.
 
 use crate::upstream::base::Distance;
 use crate::upstream::base::VectDot;

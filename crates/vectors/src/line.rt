@@ -14,6 +14,11 @@ pub const BYTES: u8 = 2;
 
 pub const DAMAGED: u8 = 3;
 
+pub const TOO_LONG: u8 = 4;
+
+// The characters of the longest buffer: 40,000 bytes of two digits each between brackets.
+const MOST_CHARACTERS: u64 = 80002;
+
 // The kinds of a part, by its first byte.
 const A_NUMBER: u8 = 1;
 
@@ -164,6 +169,24 @@ fn buffer(line: &[u8], k: usize, out: &mut [u8]) -> usize
     n
 }
 
+// Whether a part of the line is longer than any buffer that there is room for.
+fn too_long(line: &[u8]) -> bool {
+    let mut characters: u64 = 0;
+    let mut i = 0usize;
+    while i < line.len() {
+        characters = if line[i] == b' ' {
+            0
+        } else {
+            crate::more(characters)
+        };
+        if MOST_CHARACTERS < characters {
+            return true;
+        }
+        i += 1;
+    }
+    false
+}
+
 // Whether buffer i, as the call left it, is what the line has for it. A buffer that is only read has nothing there.
 fn left_as_wanted(line: &[u8], s: calls::Shape, i: u8, got: &[u8]) -> bool {
     if s.buffers <= i {
@@ -260,6 +283,9 @@ pub fn replay(which: usize, line: &[u8]) -> u8 {
     let s = calls::shape_of(which);
     if !well_formed(line, s) {
         return DAMAGED;
+    }
+    if too_long(line) {
+        return TOO_LONG;
     }
     let mut b0 = [0u8; 40000];
     let mut b1 = [0u8; 40000];

@@ -4,7 +4,8 @@
 //
 // A line has the call's name in include/lintelkite.h without lk_; its parameters in the header's order; =; the number that it
 // returns; and the buffers that it writes, as it leaves them. A number is decimal, or hexadecimal after 0x; a float is its bits. A
-// buffer is its bytes in hexadecimal between brackets; one that is written stands among the parameters with what it held before.
+// buffer is its bytes in hexadecimal between brackets, at most 40,000; one that is written stands among the parameters with what it
+// held before.
 ghost use mathlib.Core.Path.{_≡_};
 ghost use Prim.Native.Nat.{_≤_};
 ghost use lib.ListN.{length};
@@ -46,6 +47,7 @@ fn say_wrong(verdict: u8, at: u64) {
     match verdict {
         line::NUMBER => io::write_all(1, b": the number differs\n"),
         line::BYTES => io::write_all(1, b": the bytes differ\n"),
+        line::TOO_LONG => io::write_all(1, b": a buffer of more than 40,000 bytes\n"),
         _ => io::write_all(1, b": no such call, or parameters that it doesn't have\n"),
     }
     ;

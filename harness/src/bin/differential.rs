@@ -4,7 +4,7 @@
 //!
 //! It exits with 1 on a difference, and when a number that a call can give was not reached.
 
-use harness::drive::{calls, Run, SLIPS};
+use harness::drive::{calls, is_slip, Run, SLIPS};
 use std::process::ExitCode;
 use std::time::{Duration, Instant};
 
@@ -27,8 +27,8 @@ fn main() -> ExitCode {
                 None => return usage(),
             },
             "--break" => match arguments.next().as_deref().and_then(|text| text.split_once(':')) {
-                Some((call, name)) => slip = Some((call.to_string(), name.to_string())),
-                None => return usage(),
+                Some((call, name)) if is_slip(call, name) => slip = Some((call.to_string(), name.to_string())),
+                _ => return usage(),
             },
             _ => match argument.parse::<u64>() {
                 Ok(number) => plain.push(number),

@@ -1,10 +1,11 @@
 //! Module 5.
 
-use super::{if_accepted, one, Call, Run};
+use super::{if_accepted, one, Call, Run, Size};
 use crate::draw::{block_len, code_len, Mood};
 use crate::paper::code;
 use crate::refusal::*;
-use crate::{block, bytes, paper::block as paper, rust};
+use crate::upstream::{base::VectL2, rabitq::RabitqQuantizer};
+use crate::{block, paper::block as paper, rust};
 
 pub const CALLS: &[Call] = &[
     Call {
@@ -17,43 +18,47 @@ pub const CALLS: &[Call] = &[
     Call {
         name: "lk_block_pack",
         numbers: &[ACCEPTED, BAD_DIMS, BAD_LENGTH],
-        slips: &["lane-order-of-the-rust", "halves-of-a-byte-exchanged", "pad-bit-let-through", "short-codes-filled"],
+        slips: &[
+            "lane-order-of-the-rust",
+            "halves-of-a-byte-exchanged",
+            "pad-bit-let-through",
+            "last-group-left-out",
+            "short-codes-filled",
+        ],
         go: pack,
         weight: 2,
     },
     Call {
         name: "lk_block_lane",
         numbers: &[ACCEPTED, BAD_DIMS, BAD_LENGTH, OUT_OF_RANGE],
-        slips: &["halves-of-a-byte-exchanged", "pad-bit-let-through", "lane-taken-modulo-32", "factors-of-lane-0"],
+        slips: &[
+            "halves-of-a-byte-exchanged",
+            "pad-bit-let-through",
+            "last-group-left-out",
+            "lane-taken-modulo-32",
+            "factors-of-lane-0",
+        ],
         go: lane,
         weight: 2,
     },
 ];
 
 fn size(run: &mut Run) {
-    let mood = Mood::new(&mut run.rng);
-    let dims = run.rng.rabitq_dims(&mood);
-    let len = mood.length(&mut run.rng, 4);
-    let olds = [run.rng.bytes(len)];
-    let want = one(paper::size(dims, &olds[0]));
-    run.hold(
-        || format!("dims {dims}, out of {len}"),
-        &olds,
-        |lent| block::size(dims, lent[0]),
-        want.clone(),
-        || {
-            use crate::upstream::{base::VectL2, rabitq::RabitqQuantizer};
-            let size = || RabitqQuantizer::<VectL2>::new(dims).fcode_size();
-            (want.0 == ACCEPTED).then(|| (ACCEPTED, vec![bytes::of_words(&[size()])]))
-        },
-        |_| if_accepted(want.0, &olds, || vec![bytes::of_words(&[512 + 16 * (dims / 4)])]),
-    );
+    let rust = |dims| RabitqQuantizer::<VectL2>::new(dims).fcode_size();
+    super::size(run, Size { call: block::size, paper: paper::size, rust, slipped: |dims| 512 + 16 * (dims / 4) });
 }
 
 /// The nibbles of a block with their halves exchanged.
 fn exchanged(block: &[u8]) -> Vec<u8> {
     let nibbles = block[512..].iter().map(|byte| byte.rotate_left(4));
     block[..512].iter().copied().chain(nibbles).collect()
+}
+
+/// A block with no bit in its last group.
+fn without_last_group(mut block: Vec<u8>) -> Vec<u8> {
+    let last = block.len() - 16;
+    block[last..].fill(0);
+    block
 }
 
 /// A block packed from codes, pad bits of the last group and all.
@@ -89,6 +94,7 @@ fn pack(run: &mut Run) {
             "lane-order-of-the-rust" => if_accepted(number, &olds, || vec![rust::theirs(&want.1[0])]),
             "halves-of-a-byte-exchanged" => if_accepted(number, &olds, || vec![exchanged(&want.1[0])]),
             "pad-bit-let-through" => if_accepted(number, &olds, || vec![with_pad(dims, &codes)]),
+            "last-group-left-out" => if_accepted(number, &olds, || vec![without_last_group(want.1[0].clone())]),
             _ if number == BAD_LENGTH && len == paper::size_of(dims) && codes.len() < 32 * code::size_of(dims) => {
                 let mut filled = codes.clone();
                 filled.resize(32 * code::size_of(dims), 0);
@@ -126,6 +132,9 @@ fn lane(run: &mut Run) {
                     code[16 + i / 8] |= u8::from(paper::bit_at(&block, lane as usize, i)) << (i % 8);
                 }
                 vec![code]
+            }),
+            "last-group-left-out" => if_accepted(number, &olds, || {
+                vec![paper::single(dims, &without_last_group(block.clone()), lane as usize)]
             }),
             "lane-taken-modulo-32" if number == OUT_OF_RANGE => {
                 (ACCEPTED, vec![paper::single(dims, &block, lane as usize % 32)])

@@ -1,8 +1,9 @@
 //! Module 4.
 
-use super::{if_accepted, one, Call, Run};
+use super::{if_accepted, one, Call, Run, Size};
 use crate::draw::{code_len, Mood};
 use crate::refusal::*;
+use crate::upstream::{base::VectL2, rabitq::RabitqQuantizer};
 use crate::{bytes, code, paper::code as paper, rust};
 
 pub const CALLS: &[Call] = &[
@@ -16,7 +17,13 @@ pub const CALLS: &[Call] = &[
     Call {
         name: "lk_code_encode",
         numbers: &[ACCEPTED, BAD_DIMS, BAD_LENGTH, MISSING],
-        slips: &["negative-zero-is-positive", "nan-factor-made-quiet", "infinity-let-through", "pad-of-ones"],
+        slips: &[
+            "negative-zero-is-positive",
+            "nan-factor-made-quiet",
+            "infinity-let-through",
+            "pad-of-ones",
+            "last-word-left-out",
+        ],
         go: encode,
         weight: 3,
     },
@@ -30,23 +37,8 @@ pub const CALLS: &[Call] = &[
 ];
 
 fn size(run: &mut Run) {
-    let mood = Mood::new(&mut run.rng);
-    let dims = run.rng.rabitq_dims(&mood);
-    let len = mood.length(&mut run.rng, 4);
-    let olds = [run.rng.bytes(len)];
-    let want = one(paper::size(dims, &olds[0]));
-    run.hold(
-        || format!("dims {dims}, out of {len}"),
-        &olds,
-        |lent| code::size(dims, lent[0]),
-        want.clone(),
-        || {
-            use crate::upstream::{base::VectL2, rabitq::RabitqQuantizer};
-            let size = || RabitqQuantizer::<VectL2>::new(dims).code_size();
-            (want.0 == ACCEPTED).then(|| (ACCEPTED, vec![bytes::of_words(&[size()])]))
-        },
-        |_| if_accepted(want.0, &olds, || vec![bytes::of_words(&[16 + 8 * (dims / 64 + 1)])]),
-    );
+    let rust = |dims| RabitqQuantizer::<VectL2>::new(dims).code_size();
+    super::size(run, Size { call: code::size, paper: paper::size, rust, slipped: |dims| 16 + 8 * (dims / 64 + 1) });
 }
 
 fn encode(run: &mut Run) {
@@ -100,6 +92,12 @@ fn encode(run: &mut Run) {
                 }
                 vec![code]
             }),
+            "last-word-left-out" => if_accepted(number, &olds, || {
+                let mut code = want.1[0].clone();
+                let last = code.len() - 8;
+                code[last..].fill(0);
+                vec![code]
+            }),
             _ => want,
         },
     );
@@ -113,7 +111,14 @@ fn bit(run: &mut Run) {
     let code = rng.bytes(len);
     let near = rng.below(dims.clamp(1, 5_000) as usize) as u32;
     let index = if mood.hurt(rng) {
-        rng.pick(&[dims, dims.wrapping_add(1), dims.max(1).next_multiple_of(64), 4_370, 1 << 31, u32::MAX])
+        rng.pick(&[
+            dims,
+            dims.wrapping_add(1),
+            dims.max(1).checked_next_multiple_of(64).unwrap_or(0),
+            4_370,
+            1 << 31,
+            u32::MAX,
+        ])
     } else {
         near
     };

@@ -1,11 +1,11 @@
 //! Module 1.
 
 use super::{if_accepted, one, Call, Run};
-use crate::digits;
 use crate::draw::Mood;
 use crate::paper::digits as paper;
 use crate::refusal::*;
 use crate::upstream::utils::{merge_2, merge_4, merge_8, InfiniteByteChunks};
+use crate::{bytes, digits, rust};
 
 pub const CALLS: &[Call] = &[
     Call {
@@ -18,7 +18,7 @@ pub const CALLS: &[Call] = &[
     Call {
         name: "lk_digits_pack",
         numbers: &[ACCEPTED, BAD_DIMS, BAD_WIDTH, BAD_LENGTH, BAD_VALUE],
-        slips: &["highest-bits-first", "fill-of-ones", "top-is-refused"],
+        slips: &["highest-bits-first", "fill-of-ones", "last-code-left-out", "top-is-refused"],
         go: pack,
         weight: 2,
     },
@@ -63,8 +63,8 @@ fn size(run: &mut Run) {
         &olds,
         |lent| digits::size(dims, bits, lent[0]),
         want.clone(),
-        || None,
-        |_| if_accepted(want.0, &olds, || vec![(dims * bits / 8).to_le_bytes().to_vec()]),
+        || (want.0 == ACCEPTED).then(|| (ACCEPTED, vec![bytes::of_words(&[rust::digits_size(dims, bits)])])),
+        |_| if_accepted(want.0, &olds, || vec![bytes::of_words(&[dims * bits / 8])]),
     );
 }
 
@@ -107,6 +107,11 @@ fn pack(run: &mut Run) {
                 let mut filled = codes.clone();
                 filled.resize(codes.len().next_multiple_of(8 / bits as usize), top as u8);
                 vec![paper::packed(bits, &filled)]
+            }),
+            "last-code-left-out" => if_accepted(number, &olds, || {
+                let mut codes = codes.clone();
+                *codes.last_mut().unwrap() = 0;
+                vec![paper::packed(bits, &codes)]
             }),
             _ if number == ACCEPTED && codes.iter().any(|code| u64::from(*code) == top) => (BAD_VALUE, olds.to_vec()),
             _ => want,

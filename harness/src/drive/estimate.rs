@@ -29,14 +29,23 @@ pub const CALLS: &[Call] = &[
     Call {
         name: "lk_block_rough",
         numbers: BLOCK_NUMBERS,
-        slips: &["added-from-the-right", "half-first", "wrong-lane", "payload-of-a-nan", "nan-lane-refused"],
+        slips: &["added-from-the-right", "half-first", "fused", "wrong-lane", "payload-of-a-nan", "nan-lane-refused"],
         go: |run| block(run, Asked::Rough),
         weight: 2,
     },
     Call {
         name: "lk_block_lower_bounds",
         numbers: BLOCK_NUMBERS,
-        slips: &["epsilon-one-bit-up", "half-first", "fused", "wrong-lane", "payload-of-a-nan", "nan-lane-refused"],
+        slips: &[
+            "added-from-the-right",
+            "half-first",
+            "epsilon-one-bit-up",
+            "err-added",
+            "fused",
+            "wrong-lane",
+            "payload-of-a-nan",
+            "nan-lane-refused",
+        ],
         go: |run| block(run, Asked::LowerBound),
         weight: 3,
     },
@@ -164,7 +173,8 @@ fn block(run: &mut Run, asked: Asked) {
     let rng = &mut run.rng;
     let Record { dis_v_2, b, k } = record(rng, &mood);
     let query = Query { metric, dims, dis_v_2, b, k, codes: &codes };
-    let block = random_block(rng, dims);
+    let kind = rng.below(5);
+    let block = random_block(rng, dims, kind);
     let len = mood.length(rng, block.len());
     let block: Vec<u8> = block.into_iter().chain(std::iter::repeat(0)).take(len).collect();
     let len = mood.length(rng, 128);
@@ -209,9 +219,8 @@ fn block(run: &mut Run, asked: Asked) {
 }
 
 /// A block of random lanes, with factors of one kind.
-pub fn random_block(rng: &mut Rng, dims: u32) -> Vec<u8> {
+pub fn random_block(rng: &mut Rng, dims: u32, kind: usize) -> Vec<u8> {
     let mut bytes = rng.bytes(block_len(dims));
-    let kind = rng.below(5);
     for lane in 0..32 {
         for (f, factor) in factors(rng, kind).iter().enumerate() {
             bytes[block::factor(f, lane)].copy_from_slice(&factor.to_bits().to_le_bytes());

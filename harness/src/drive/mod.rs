@@ -14,11 +14,13 @@ mod scalar;
 mod sums;
 mod walk;
 
+use crate::draw::Mood;
 use crate::refusal::{ACCEPTED, NAMES};
 use crate::rng::Rng;
-use crate::trial;
+use crate::{bytes, trial};
 use std::collections::BTreeMap;
 use std::fmt::Write;
+use std::panic::{catch_unwind, AssertUnwindSafe};
 
 /// A number and the bytes of every writable buffer.
 pub type Answer = (u32, Vec<Vec<u8>>);
@@ -52,6 +54,11 @@ pub fn calls() -> Vec<&'static Call> {
 /// Slips that every call can have: now and then one bit of an accepted answer is wrong; an accepted call writes
 /// nothing; a refused call writes a byte; now and then a refusal has the next number.
 pub const SLIPS: [&str; 4] = ["one-bit", "nothing", "touches", "number"];
+
+/// Whether there is such a call, and it or every call can have this slip.
+pub fn is_slip(call: &str, slip: &str) -> bool {
+    calls().iter().any(|known| known.name == call && (known.slips.contains(&slip) || SLIPS.contains(&slip)))
+}
 
 pub struct Run {
     pub rng: Rng,
@@ -99,16 +106,26 @@ impl Run {
         }
     }
 
-    /// Puts a copy with a slip in the place of one call.
+    /// Puts a copy with a slip in the place of one call. A slip that the call does not have is no slip at all.
     pub fn broken(seed: u64, call: &str, slip: &str) -> Run {
+        assert!(is_slip(call, slip), "{call} has no slip {slip}");
         Run { broken: Some((call.to_string(), slip.to_string())), ..Run::new(seed) }
     }
 
-    /// Tries one call. A difference is kept, and the run should end with it.
+    /// Tries one call. A difference is kept, and the run should end with it. A panic is one, too: a byte outside of the
+    /// lent buffers was written, or a search came to an end that it must not come to.
     pub fn try_call(&mut self, call: &Call) -> Option<&str> {
         self.call = call.name;
-        (call.go)(self);
+        if let Err(why) = catch_unwind(AssertUnwindSafe(|| (call.go)(self))) {
+            let said = why.downcast_ref::<String>().map(String::as_str).or(why.downcast_ref::<&str>().copied());
+            self.differs(said.unwrap_or("a panic"), "that of this call");
+        }
         self.difference.as_deref()
+    }
+
+    fn differs(&mut self, found: &str, input: &str) {
+        let (call, seed, made) = (self.call, self.seed, self.made);
+        self.difference = Some(format!("{call}: {found}\nseed {seed}, call {made}\ninput: {input}"));
     }
 
     pub fn made(&self) -> u64 {
@@ -184,8 +201,7 @@ impl Run {
             }
         }
         if let Some(found) = found {
-            let (call, seed, made) = (self.call, self.seed, self.made);
-            self.difference = Some(format!("{call}: {found}\nseed {seed}, call {made}\ninput: {}", input()));
+            self.differs(&found, &input());
         }
     }
 
@@ -221,4 +237,31 @@ fn one(answer: (u32, Vec<u8>)) -> Answer {
 /// A refusal that keeps `olds`, or an accepted answer.
 fn if_accepted(number: u32, olds: &[Vec<u8>], news: impl FnOnce() -> Vec<Vec<u8>>) -> Answer {
     (number, if number == ACCEPTED { news() } else { olds.to_vec() })
+}
+
+/// A call that writes the size of a code or of a block.
+struct Size {
+    call: fn(u32, &mut [u8]) -> u32,
+    paper: fn(u32, &[u8]) -> (u32, Vec<u8>),
+    rust: fn(u32) -> u32,
+    /// The size that the broken copy gives.
+    slipped: fn(u32) -> u32,
+}
+
+fn size(run: &mut Run, size: Size) {
+    let mood = Mood::new(&mut run.rng);
+    let dims = run.rng.rabitq_dims(&mood);
+    let len = mood.length(&mut run.rng, 4);
+    let olds = [run.rng.bytes(len)];
+    let want = one((size.paper)(dims, &olds[0]));
+    let number = want.0;
+    let by = |size: fn(u32) -> u32| if_accepted(number, &olds, || vec![bytes::of_words(&[size(dims)])]);
+    run.hold(
+        || format!("dims {dims}, out of {len}"),
+        &olds,
+        |lent| (size.call)(dims, lent[0]),
+        want,
+        || (number == ACCEPTED).then(|| by(size.rust)),
+        |_| by(size.slipped),
+    );
 }

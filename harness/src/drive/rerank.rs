@@ -20,6 +20,7 @@ pub const CALLS: &[Call] = &[
             "always-done",
             "negative-zero-is-less",
             "asked-at-once",
+            "first-128-places-alone",
             "waiting-nan-refused",
         ],
         go: next,
@@ -189,6 +190,11 @@ fn next(run: &mut Run) {
                 "negative-zero-is-less" => {
                     let total = |x: f32| if x == 0.0 && x.is_sign_negative() { -f32::from_bits(1) } else { x };
                     let [e, d] = [&e, &d].map(|list| list.iter().map(|x| total(*x)).collect::<Vec<_>>());
+                    paper::rule(&e, &d, &marks)
+                }
+                "first-128-places-alone" => {
+                    let far = |i: usize, mark: u8| if i < 128 { mark } else { GIVEN };
+                    let marks: Vec<u8> = marks.iter().enumerate().map(|(i, mark)| far(i, *mark)).collect();
                     paper::rule(&e, &d, &marks)
                 }
                 "asked-at-once" => match last_least(&e, &marks, WAITING, |x, y| x <= y) {

@@ -11,21 +11,36 @@ pub const CALLS: &[Call] = &[
     Call {
         name: "lk_scalar_encode",
         numbers: &[ACCEPTED, BAD_DIMS, BAD_WIDTH, BAD_LENGTH, MISSING, BAD_VALUE],
-        slips: &["halves-upward", "nan-gives-top", "negatives-wrap", "min-above-max-accepted", "missing-gives-0"],
+        slips: &[
+            "halves-upward",
+            "halves-upward-at-width-8",
+            "nan-gives-top",
+            "negatives-wrap",
+            "last-column-left-out",
+            "min-above-max-accepted",
+            "missing-gives-0",
+        ],
         go: encode,
         weight: 4,
     },
     Call {
         name: "lk_scalar_table",
         numbers: &[ACCEPTED, BAD_DIMS, BAD_WIDTH, BAD_LENGTH, MISSING, BAD_VALUE],
-        slips: &["entry-0-is-min", "fused", "metrics-exchanged", "payload-of-a-nan"],
+        slips: &["entry-0-is-min", "top-entry-is-max", "fused", "metrics-exchanged", "payload-of-a-nan"],
         go: table,
         weight: 3,
     },
     Call {
         name: "lk_scalar_distance",
         numbers: &[ACCEPTED, BAD_DIMS, BAD_WIDTH, BAD_LENGTH, BAD_VALUE, NO_ESTIMATE],
-        slips: &["from-the-right", "from-negative-zero", "dot-subtracted-from-0", "nan-handed-out", "wide-sum"],
+        slips: &[
+            "from-the-right",
+            "from-negative-zero",
+            "last-entry-left-out",
+            "dot-subtracted-from-0",
+            "nan-handed-out",
+            "wide-sum",
+        ],
         go: distance,
         weight: 3,
     },
@@ -104,8 +119,15 @@ fn encode(run: &mut Run) {
         },
         |slip| {
             let top = if number == ACCEPTED { top(bits) } else { 0 };
+            let upward = |q: f32| ((q + 0.5).floor().max(0.0) as u32).min(top);
             match slip {
-                "halves-upward" => if_accepted(number, &olds, || by(&|q| ((q + 0.5).floor().max(0.0) as u32).min(top))),
+                "halves-upward" => if_accepted(number, &olds, || by(&upward)),
+                "halves-upward-at-width-8" if bits == 8 => if_accepted(number, &olds, || by(&upward)),
+                "last-column-left-out" => if_accepted(number, &olds, || {
+                    let mut codes: Vec<u8> = (0..dims as usize).map(|i| digit(bits, &want.1[0], i) as u8).collect();
+                    *codes.last_mut().unwrap() = 0;
+                    vec![packed(bits, &codes)]
+                }),
                 "nan-gives-top" => {
                     let code = |q: f32| if q.is_nan() { top } else { paper::rounded(q, top) };
                     if_accepted(number, &olds, || by(&code))
@@ -159,6 +181,15 @@ fn table(run: &mut Run) {
                 by(&|x, min, max, j| {
                     if j == 0 {
                         value(x, min)
+                    } else {
+                        paper::entry(metric, bits, x, min, max, j)
+                    }
+                })
+            }),
+            "top-entry-is-max" => if_accepted(number, &olds, || {
+                by(&|x, min, max, j| {
+                    if j == top(bits) {
+                        value(x, max)
                     } else {
                         paper::entry(metric, bits, x, min, max, j)
                     }
@@ -228,6 +259,10 @@ fn distance(run: &mut Run) {
             "from-negative-zero" => {
                 if_accepted(number, &olds, || signed(entries().iter().fold(-0.0, |sum, x| sum + x)))
             }
+            "last-entry-left-out" => if_accepted(number, &olds, || {
+                let entries = entries();
+                signed(entries[..entries.len() - 1].iter().fold(0.0, |sum, x| sum + x))
+            }),
             "dot-subtracted-from-0" => if_accepted(number, &olds, || {
                 let sum = entries().iter().fold(0.0, |sum, x| sum + x);
                 vec![bytes::of_floats(&[if metric == 1 { sum } else { 0.0 - sum }])]

@@ -17,14 +17,22 @@ pub const CALLS: &[Call] = &[
     Call {
         name: "lk_code_sum",
         numbers: &[ACCEPTED, BAD_DIMS, BAD_LENGTH, BAD_VALUE],
-        slips: &["pad-bits-counted", "plane-3-weighs-4", "code-16-accepted", "cut-to-15-bits"],
+        slips: &["pad-bits-counted", "plane-3-weighs-4", "code-16-accepted", "cut-to-15-bits", "last-word-left-out"],
         go: code_sum,
         weight: 2,
     },
     Call {
         name: "lk_block_sums",
         numbers: &[ACCEPTED, BAD_DIMS, BAD_LENGTH, BAD_VALUE],
-        slips: &["wrong-half", "pad-bits-counted", "lane-order-of-the-rust", "code-16-accepted", "sums-of-8-bits"],
+        slips: &[
+            "wrong-half",
+            "pad-bits-counted",
+            "lane-order-of-the-rust",
+            "code-16-accepted",
+            "sums-of-8-bits",
+            "last-group-left-out",
+            "groups-past-1024-left-out",
+        ],
         go: block_sums,
         weight: 2,
     },
@@ -49,7 +57,7 @@ fn query(run: &mut Run) {
             "code-16-accepted" if number == BAD_VALUE && codes.iter().all(|code| *code <= 16) => {
                 answer(paper::of_query(&codes))
             }
-            "last-code-left-out" if number == ACCEPTED => answer(paper::of_query(&codes[1..])),
+            "last-code-left-out" if number == ACCEPTED => answer(paper::of_query(&codes[..codes.len() - 1])),
             "cut-to-15-bits" if number == ACCEPTED => answer(paper::of_query(&codes) % 0x8000),
             _ => want,
         },
@@ -95,6 +103,9 @@ fn code_sum(run: &mut Run) {
                 answer(paper::of_code(&codes, &code))
             }
             "cut-to-15-bits" if number == ACCEPTED => answer(paper::of_code(&codes, &code) % 0x8000),
+            "last-word-left-out" if number == ACCEPTED => {
+                answer(paper::of_code(&codes[..(codes.len() - 1) / 64 * 64], &code))
+            }
             _ => want,
         },
     );
@@ -113,6 +124,8 @@ fn block_sums(run: &mut Run) {
     let number = want.0;
     let lanes =
         |sum: &dyn Fn(usize) -> u32| -> Vec<Vec<u8>> { vec![bytes::of_words(&(0..32).map(sum).collect::<Vec<_>>())] };
+    // The answer of a copy that stops after so many codes.
+    let up_to = |end: usize| if_accepted(number, &olds, || lanes(&|lane| paper::of_lane(&codes[..end], &block, lane)));
     run.hold(
         || format!("dims {dims}, query {codes:?}, block {block:02X?}, out of {len}"),
         &olds,
@@ -145,6 +158,8 @@ fn block_sums(run: &mut Run) {
             "code-16-accepted" if number == BAD_VALUE && codes.iter().all(|code| *code <= 16) => {
                 (ACCEPTED, lanes(&|lane| paper::of_lane(&codes, &block, lane)))
             }
+            "last-group-left-out" if number == ACCEPTED => up_to((codes.len() - 1) / 4 * 4),
+            "groups-past-1024-left-out" if number == ACCEPTED => up_to(codes.len().min(4 * 1024)),
             "sums-of-8-bits" => {
                 if_accepted(number, &olds, || lanes(&|lane| paper::of_lane(&codes, &block, lane) % 256))
             }

@@ -6,6 +6,7 @@ use crate::draw::{code_len, Mood};
 use crate::paper::estimate::{Asked, Query};
 use crate::paper::walk::{self as paper, Walk};
 use crate::refusal::*;
+use crate::rng::Rng;
 use crate::{bytes, paper::block, paper::code, paper::estimate, paper::sums, rust, walk};
 
 pub const CALLS: &[Call] = &[Call {
@@ -19,7 +20,10 @@ pub const CALLS: &[Call] = &[Call {
         "marks-left",
         "room-before-range",
         "empty-range-refused",
+        "next-record",
         "wrong-lane",
+        "first-block-again",
+        "129th-block-left-out",
         "half-first",
         "nan-outside-the-range-refused",
     ],
@@ -38,20 +42,24 @@ fn go(run: &mut Run) {
     let query = Query { metric, dims, dis_v_2, b, k, codes: &codes };
 
     let few = if dims > 1_000 { 40 } else { 100 };
-    let right_n = match rng.below(3) {
-        0 => rng.pick(&[0, 1, 31, 32, 33, 64]),
+    // Now and then more records than the lists can have places.
+    let right_n = match rng.below(100) {
+        0 if dims <= 24 => 4_000 + rng.below(300),
+        1..=33 => rng.pick(&[0, 1, 31, 32, 33, 64]),
         _ => 1 + rng.below(few),
     };
     let mut records = Vec::new();
+    // Factors of one kind, or with one of any bits among them now and then.
+    let (usual, rare) = (rng.below(6), rng.once_in(3));
+    let kind = |rng: &mut Rng| if rare && rng.once_in(20) { 0 } else { usual };
     if layout == 2 {
         for _ in 0..right_n.div_ceil(32) {
-            records.extend(random_block(rng, dims));
+            let kind = kind(rng);
+            records.extend(random_block(rng, dims, kind));
         }
     } else {
-        let kind = rng.below(6);
-        let rare = rng.once_in(3);
         for _ in 0..right_n {
-            let kind = if rare && rng.once_in(20) { 0 } else { kind };
+            let kind = kind(rng);
             records.extend(bytes::of_floats(&factors(rng, kind)));
             records.extend(rng.bytes(code_len(dims) - 16));
         }
@@ -60,6 +68,7 @@ fn go(run: &mut Run) {
     records.resize(len, 0);
     let n = if mood.hurt(rng) { rng.pick(&[1_048_577, u32::MAX, right_n as u32 + 1]) } else { right_n as u32 };
     let (start, end) = match rng.below(8) {
+        _ if right_n >= 4_096 && rng.once_in(2) => (right_n as u32 - 4_096, right_n as u32),
         0 => (0, right_n as u32),
         1 => {
             let at = rng.next() as u32 >> rng.below(32);
@@ -82,7 +91,7 @@ fn go(run: &mut Run) {
         1 => wanted.saturating_sub(1).min(4_096),
         2 => 4_096,
         3 if mood.hurt(rng) => 4_097,
-        _ => wanted.min(4_000) + rng.below(10),
+        _ => (wanted.min(4_096) + rng.below(10)).min(4_096),
     };
     let lens =
         [mood.length(rng, 4 * places), mood.length(rng, 4 * places), mood.length(rng, places), mood.length(rng, 4)];
@@ -144,6 +153,10 @@ fn written(found: &[(u32, f32)], olds: &[Vec<u8>]) -> Vec<Vec<u8>> {
 fn slipped(slip: &str, walk: Walk, olds: &[Vec<u8>], want: &Answer) -> Answer {
     let (number, mut lists) = want.clone();
     let found = || -> Vec<(u32, f32)> { (walk.start..walk.end).map(|id| (id, walk.bound(id))).collect() };
+    // The ids of the range, each with the bound of another.
+    let bounds_of = |other: &dyn Fn(u32) -> u32| -> Vec<(u32, f32)> {
+        (walk.start..walk.end).map(|id| (id, walk.bound(other(id)))).collect()
+    };
     let count = found_count(walk);
     match slip {
         "one-short" if number == ACCEPTED && count > 0 => return answer(&found()[..count - 1], olds),
@@ -159,9 +172,16 @@ fn slipped(slip: &str, walk: Walk, olds: &[Vec<u8>], want: &Answer) -> Answer {
         "empty-range-refused" if number == ACCEPTED && count == 0 && walk.end > walk.n => {
             return (OUT_OF_RANGE, olds.to_vec());
         }
-        "wrong-lane" if number == ACCEPTED && walk.layout == 2 => {
+        "next-record" if number == ACCEPTED && walk.layout == 1 => {
+            return answer(&bounds_of(&|id| (id + 1).min(walk.n - 1)), olds);
+        }
+        "wrong-lane" if number == ACCEPTED && walk.layout == 2 => return answer(&bounds_of(&|id| id ^ 16), olds),
+        "first-block-again" if number == ACCEPTED && walk.layout == 2 => {
+            return answer(&bounds_of(&|id| id % 32 + walk.start / 32 * 32), olds);
+        }
+        "129th-block-left-out" if number == ACCEPTED && walk.layout == 2 => {
             let mut found = found();
-            found.iter_mut().for_each(|(id, bound)| *bound = walk.bound(*id ^ 16));
+            found.iter_mut().filter(|(id, _)| id / 32 - walk.start / 32 == 128).for_each(|(_, bound)| *bound = 0.0);
             return answer(&found, olds);
         }
         "half-first" if (number == ACCEPTED || number == NO_ESTIMATE) && count > 0 => {

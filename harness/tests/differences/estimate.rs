@@ -1,7 +1,8 @@
 //! Module 7.
 
-use harness::bytes::of_floats;
+use harness::bytes::{of_floats, words, NAN};
 use harness::estimate;
+use harness::paper::block;
 use harness::paper::code::{self, size_of};
 use harness::paper::estimate::{Asked, Query};
 use harness::rust;
@@ -43,6 +44,35 @@ fn an_estimate_that_is_a_nan() {
     assert_eq!(ours(query, Asked::Rough, &single), Err(8));
     assert!(rust::estimate_code(query, Asked::LowerBound, &single).is_nan());
     assert_eq!(ours(query, Asked::LowerBound, &single), Err(8));
+}
+
+/// A NaN of a lane is handed out on both sides. It has one pattern here, and there the bits of the factor or the CPU.
+#[test]
+fn a_lane_that_is_a_nan() {
+    let query = Query { metric: 1, dims: 1, dis_v_2: 0.0, b: 0.0, k: 0.0, codes: &[0] };
+    let single = a_code([f32::from_bits(0x7FC0_0001), 0.0, 0.0, 0.0]);
+    let packed = block::packed(1, &single.repeat(32));
+    let theirs = rust::estimate_block(query, Asked::Rough, &packed);
+    assert!(theirs.iter().all(|lane| lane.is_nan() && lane.to_bits() != NAN));
+    let mut out = [0xEE; 128];
+    assert_eq!(estimate::block(query, Asked::Rough, &packed, &mut out), 0);
+    assert_eq!(words(&out), [NAN; 32]);
+}
+
+/// An infinity or a NaN in the query record is worked with there, and here it is missing.
+#[test]
+fn a_query_record_that_is_not_finite() {
+    let single = a_code([0.0; 4]);
+    let sound = Query { metric: 1, dims: 1, dis_v_2: 0.0, b: 0.0, k: 0.0, codes: &[0] };
+    let far = Query { dis_v_2: f32::INFINITY, ..sound };
+    assert_eq!(rust::estimate_code(far, Asked::Rough, &single), f32::INFINITY);
+    assert_eq!(ours(far, Asked::Rough, &single), Err(4));
+    for bad in [f32::INFINITY, f32::NAN] {
+        for query in [Query { b: bad, ..sound }, Query { k: bad, ..sound }] {
+            assert!(rust::estimate_code(query, Asked::Rough, &single).is_nan());
+            assert_eq!(ours(query, Asked::Rough, &single), Err(4));
+        }
+    }
 }
 
 /// dis_v_2 below 0 has no root: the Rust's bound is a NaN, and here it is refused.

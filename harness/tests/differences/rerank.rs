@@ -14,6 +14,16 @@ fn order_among_equal_distances() {
     assert!(rust::same_search(&estimates, &distances, &ours, &theirs));
 }
 
+/// The Rust takes any number of candidates; here there are at most 4,096.
+#[test]
+fn more_than_4096_candidates() {
+    let estimates = vec![0.0; 4_097];
+    assert_eq!(rust::search(&estimates, &estimates).len(), 2 * 4_097);
+    let (mut marks, mut out) = (vec![0; 4_097], [0xEE; 16]);
+    assert_eq!(rerank::next(&[0; 4 * 4_097], &[0; 4 * 4_097], &mut marks, &mut out), 3);
+    assert_eq!(out, [0xEE; 16]);
+}
+
 /// So it is among equal estimates.
 #[test]
 fn order_among_equal_estimates() {

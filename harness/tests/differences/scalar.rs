@@ -33,6 +33,33 @@ fn process_wants_the_floor_and_encode_writes_the_ceiling() {
     assert_eq!(out, [0; 4]);
 }
 
+/// Above 65,535 dims `encode` goes on, and `preprocess` and `process` end the program.
+#[test]
+fn more_than_65535_dims() {
+    let (dims, n) = (65_536, 65_536);
+    let floats = vec![0.0; n];
+    let code = rust::scalar_encode(dims, 1, &floats, &floats, &floats);
+    assert_eq!(code.len(), n / 8);
+    assert!(panics(|| rust::scalar_table(1, dims, 1, &floats, &floats, &floats)));
+    assert!(panics(|| VectL2::process(dims, 1, &vec![0.0; 2 * n], &code)));
+    let (list, mut out, mut table) = (vec![0; 4 * n], vec![0xEE; n / 8], vec![0xEE; 8 * n]);
+    assert_eq!(scalar::encode(dims, 1, &list, &list, &list, &mut out), 1);
+    assert_eq!(scalar::table(1, dims, 1, &list, &list, &list, &mut table), 1);
+    assert_eq!(scalar::distance(1, dims, 1, &vec![0; 8 * n], &code, &mut out[..4]), 1);
+}
+
+/// No dims at all: the Rust encodes nothing to nothing, and only `process` ends the program.
+#[test]
+fn no_dims() {
+    assert_eq!(rust::scalar_encode(0, 1, &[], &[], &[]), []);
+    assert_eq!(rust::scalar_table(1, 0, 1, &[], &[], &[]), []);
+    assert!(panics(|| VectL2::process(0, 1, &[], &[])));
+    let mut out = [0xEE; 4];
+    assert_eq!(scalar::encode(0, 1, &[], &[], &[], &mut []), 1);
+    assert_eq!(scalar::table(1, 0, 1, &[], &[], &[], &mut []), 1);
+    assert_eq!(scalar::distance(1, 0, 1, &[], &[], &mut out), 1);
+}
+
 /// An untrained column, min +infinity and max -infinity, encodes to 0 there.
 #[test]
 fn an_untrained_column() {

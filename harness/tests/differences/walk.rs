@@ -40,6 +40,19 @@ fn a_bound_that_is_a_nan() {
     assert_eq!((ids, bounds, marks, count), ([0xEE; 4], [0xEE; 4], [0xEE], [0xEE; 4]));
 }
 
+/// The Rust does not know how many records there are; here they are at most 1,048,576, and the range ends among them.
+#[test]
+fn records_without_a_count() {
+    let records = vec![0; 24 * 1_048_577];
+    let last = Walk { query: QUERY, layout: 1, records: &records, n: 1_048_577, start: 1_048_576, end: 1_048_577 };
+    assert_eq!(rust::walk(last), [(1_048_576, 0.0)]);
+    let (mut ids, mut bounds, mut marks, mut count) = ([0xEE; 4], [0xEE; 4], [0xEE], [0xEE; 4]);
+    assert_eq!(walk::walk(last, &mut ids, &mut bounds, &mut marks, &mut count), 3);
+    let past = Walk { records: &records[..24], n: 1, start: 1, end: 2, ..last };
+    assert_eq!(walk::walk(past, &mut ids, &mut bounds, &mut marks, &mut count), 6);
+    assert_eq!((ids, bounds, marks, count), ([0xEE; 4], [0xEE; 4], [0xEE], [0xEE; 4]));
+}
+
 /// A backwards range is silent on both sides: nothing is found.
 #[test]
 fn a_backwards_range_is_empty_on_both_sides() {

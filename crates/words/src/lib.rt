@@ -1,11 +1,11 @@
 // What every module speaks: numbers and floats in little-endian bytes, the refusal numbers, the limits, the metric.
 ghost use mathlib.Core.Path.{_≡_};
 ghost use Prim.Native.Nat.{_+_, _*_, _%_, _^_, _≤_, _<_, max};
-ghost use lib.Dec.{leb};
+ghost use lib.Dec.{leb, eqb};
 ghost use lib.Ieee.{isNan, nanBits, binary32};
 ghost use lib.ListN.{length, getD, set};
 ghost use lib.Seq.{sets};
-ghost use mathlib.Core.Bool.{false, cond};
+ghost use mathlib.Core.Bool.{false, not, _||_, cond};
 ghost use Rattle.words.specs.Bytes.{numAt, bytesOf, f32At, floatBytes};
 ghost use Rattle.words.specs.Floats.{missing, anyNan};
 ghost use Rattle.words.specs.Limits.{mostScalarDims};
@@ -62,6 +62,16 @@ pub fn metric_of(n: u32) -> Metric
     ensures { λ r. ⌜ r ≡ metricOf n ⌝ }
 {
     if n == 1 { Metric::L2 } else { Metric::Dot }
+}
+
+// Whether one of two buffers isn't of its length: of the length a where n is asked for, or b where m is.
+pub fn bad_lengths(a: usize, n: usize, b: usize, m: usize) -> bool
+    ensures { λ r. ⌜ r ≡ (not (eqb a n) || not (eqb b m)) ⌝ }
+{
+    if a != n {
+        return true;
+    }
+    b != m
 }
 
 // Whether n is no metric's number, and no layout's: neither 1 nor 2.

@@ -83,9 +83,10 @@ pub fn run(clock: &Clock) {
                         let table = bytes::of_floats(&lut);
                         let code = quantizer.encode(&vector);
                         let mut out = [0; 4];
+                        let most = [("portable", if bits == 8 { 1.3 } else { 1.15 })];
                         clock.row(
                             &row(""),
-                            &[("portable", if bits == 8 { 1.3 } else { 1.15 })],
+                            if dims == 1_024 { &most } else { &[] },
                             vec![
                                 Form::new("ours", || scalar::distance(1, dims, bits, &table, &code, &mut out)),
                                 Form::new("portable", || {

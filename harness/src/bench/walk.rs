@@ -7,7 +7,7 @@ use crate::paper::{block, code};
 use crate::rng::Rng;
 use crate::rust::{self, Aligned};
 use crate::upstream::base::{AlwaysEqual, Distance, RerankerPop, VectL2};
-use crate::upstream::detect::{levels, with};
+use crate::upstream::detect::{levels, with, Level};
 use crate::upstream::fast_scan::b4;
 use crate::upstream::rabitq::{self, FlatRerankVec, RabitqQuantizer};
 use crate::upstream::reranker::error::ErrorFlatReranker;
@@ -127,8 +127,7 @@ pub fn run(clock: &Clock) {
             };
             print_row(&format!("{what}, {dims} dims"), &names, &whole, asked);
             // What a record more takes: the difference of 4,096 ids and 2,048.
-            let records_more = if layout == 2 { 64.0 } else { 2_048.0 };
-            let more = nanos.chunks(2).map(|two| (two[0] - two[1]) / records_more).collect::<Vec<_>>();
+            let more = nanos.chunks(2).map(|two| (two[0] - two[1]) / records_more(layout)).collect::<Vec<_>>();
             each.push((layout, dims, names.iter().map(|name| name.to_string()).collect::<Vec<_>>(), more));
         }
     }
@@ -140,32 +139,64 @@ pub fn run(clock: &Clock) {
         print_row(&format!("{what}, {dims} dims"), &names, more, &[]);
     }
 
-    heading("the same beside the Rust's sum alone, table made");
-    for (layout, dims, _, more) in &each {
-        let codes: Vec<u8> = (0..*dims).map(|_| (rng.next() % 16) as u8).collect();
-        let (lut, planes) = (rabitq::gen(codes.clone()), rabitq::binarize(&codes));
-        let nibbles = rng.bytes(16 * dims.div_ceil(4) as usize);
-        let words: Vec<u64> = (0..dims.div_ceil(64)).map(|_| rng.next()).collect();
-        let (forms, asked) = if *layout == 2 {
+    sums_alone(clock, &mut rng, &each);
+    grow(&mut rng);
+}
+
+/// The sums alone, table or planes made. No call of ours is a sum alone, so both sides are differences: what the dims
+/// take more than the fewest do (4 of a block, 64 of a single code), ours from walks, whose lower bounds take the same
+/// time at any dims.
+fn sums_alone(clock: &Clock, rng: &mut Rng, each: &[(u32, u32, Vec<String>, Vec<f64>)]) {
+    heading("sums alone: dims past the first 4, or 64");
+    for layout in [2, 1] {
+        let fewest = if layout == 2 { 4 } else { 64 };
+        let records = Records::new(rng, fewest, layout, 4_096);
+        let (mut lists, mut half) = (Lists::new(), Lists::new());
+        let nanos = clock.race(&mut [
+            Form::new("ours", || lists.walk(records.walk(4_096, 0, 4_096))),
+            Form::new("half", || half.walk(records.walk(4_096, 0, 2_048))),
+        ]);
+        let first = (nanos[0] - nanos[1]) / records_more(layout);
+        let (forms, asked) = if layout == 2 {
             (block_forms(), &[("portable", 0.17), ("SSSE3", 2.6)][..])
         } else {
             (single_forms(), &[("portable", 1.1)][..])
         };
-        let mut race = Vec::new();
-        for (level, name) in &forms {
-            race.push(match layout {
-                2 => Form::at(*level, name, || b4::fast_scan_b4(dims.div_ceil(4), &nibbles, &lut)[0]),
-                _ => Form::at(*level, name, || rabitq::asymmetric_binary_dot_product(&words, &planes)),
-            });
+        let theirs_first = rust_sums(clock, rng, layout, fewest, &forms);
+        for (_, dims, _, more) in each.iter().filter(|row| row.0 == layout) {
+            let theirs = rust_sums(clock, rng, layout, *dims, &forms);
+            let names: Vec<&str> = std::iter::once("ours").chain(forms.iter().map(|form| form.1)).collect();
+            let past = theirs.iter().zip(&theirs_first).map(|(whole, first)| whole - first);
+            let nanos: Vec<f64> = std::iter::once(more[0] - first).chain(past).collect();
+            let what = if layout == 2 { "block" } else { "single code" };
+            print_row(&format!("{what}, {dims} dims"), &names, &nanos, asked);
         }
-        let theirs = clock.race(&mut race);
-        let names: Vec<&str> = std::iter::once("ours").chain(forms.iter().map(|form| form.1)).collect();
-        let nanos: Vec<f64> = std::iter::once(more[0]).chain(theirs).collect();
-        let what = if *layout == 2 { "block" } else { "single code" };
-        print_row(&format!("{what}, {dims} dims"), &names, &nanos, asked);
     }
+}
 
-    grow(&mut rng);
+/// The Rust's sum of a block or of a single code, in each of its forms.
+fn rust_sums(clock: &Clock, rng: &mut Rng, layout: u32, dims: u32, forms: &[(Level, &str)]) -> Vec<f64> {
+    let codes: Vec<u8> = (0..dims).map(|_| (rng.next() % 16) as u8).collect();
+    let (lut, planes) = (rabitq::gen(codes.clone()), rabitq::binarize(&codes));
+    let nibbles = rng.bytes(16 * dims.div_ceil(4) as usize);
+    let words: Vec<u64> = (0..dims.div_ceil(64)).map(|_| rng.next()).collect();
+    let mut race = Vec::new();
+    for (level, name) in forms {
+        race.push(match layout {
+            2 => Form::at(*level, name, || b4::fast_scan_b4(dims.div_ceil(4), &nibbles, &lut)[0]),
+            _ => Form::at(*level, name, || rabitq::asymmetric_binary_dot_product(&words, &planes)),
+        });
+    }
+    clock.race(&mut race)
+}
+
+/// How many records more 4,096 ids are than 2,048.
+fn records_more(layout: u32) -> f64 {
+    if layout == 2 {
+        64.0
+    } else {
+        2_048.0
+    }
 }
 
 /// The least of a few runs, in nanoseconds.

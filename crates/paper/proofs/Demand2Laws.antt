@@ -13,8 +13,7 @@ use native.Mathlib.Nat.{le-refl, mul-le-mul}
 use native.Mathlib.Omega.{arith}
 use lib.ListN.{length, getD, take, drop, length-drop}
 use lib.Seq.{length-take-le, getD-drop}
-use Rattle.code.specs.Code.{codeSize}
-use Rattle.code.specs.Calls.{signClear}
+use Rattle.code.specs.Code.{codeSize, signClear}
 use Rattle.block.specs.Block.{codeAt, laneCode, packed}
 use Rattle.paper.specs.Demand2.{Bytes, ZeroPads, Demand2}
 
@@ -52,12 +51,12 @@ demand-2 =
     record {
       digits = read-packed;
       entries = λ m w dims vector lo hi i j h k. table-back m w dims vector lo hi i j h k;
-      planes = λ query code q b. counted query code [] (q .few) (q .small) b .planes;
-      table = λ query code q b. counted query code [] (q .few) (q .small) b .table;
-      most = λ query code q b. counted query code [] (q .few) (q .small) b .small;
-      lanes = λ query whole k q. counted query [] whole (q .few) (q .small) nothing .lanes k;
-      lane-table = λ query whole k q. counted query [] whole (q .few) (q .small) nothing .lane-table k;
-      lane-most = λ query whole k q. counted query [] whole (q .few) (q .small) nothing .lane-small k;
+      planes = λ query code q b. counted query code [] q b .planes;
+      table = λ query code q b. counted query code [] q b .table;
+      most = λ query code q b. counted query code [] q b .small;
+      lanes = λ query whole k q. counted query [] whole q nothing .lanes k;
+      lane-table = λ query whole k q. counted query [] whole q nothing .lane-table k;
+      lane-most = λ query whole k q. counted query [] whole q nothing .lane-small k;
       word-bits = λ code w i h l. word-bit code h w i l;
       lane-back = lane-of-packed;
       block-back = packed-of-lanes;

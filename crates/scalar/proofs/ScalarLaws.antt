@@ -25,7 +25,8 @@ use Rattle.digits.specs.Digits.{isWidth, levels, top, perByte, packedSize, pack
 use Rattle.digits.proofs.DigitLaws.{by-width, digit-from, full-byte, last-byte}
 use Rattle.scalar.specs.Code.{quotient, codeAt, codesOf, scalarCode}
 use Rattle.scalar.specs.Table.{rowBytes, addedTo, termAt}
-use Rattle.scalar.specs.Calls.{badVectors, anyMissing, Fine}
+use Rattle.scalar.specs.Parts.{Fine}
+use Rattle.scalar.specs.Calls.{badVectors, anyMissing}
 use Rattle.scalar.proofs.RoundLaws.{code-le}
 
 -- ---- buffers that no test refuses

@@ -10,7 +10,7 @@ ghost use Rattle.words.specs.Limits.{mostScalarDims};
 ghost use Rattle.digits.specs.Digits as d;
 ghost use Rattle.digits.specs.Digits.{bitsOf, isWidth, perByte, packedSize};
 ghost use Rattle.scalar.specs.Code.{delOf, codeOf, codeAt, scalarCode};
-ghost use Rattle.scalar.specs.Calls.{Fine};
+ghost use Rattle.scalar.specs.Parts.{Fine};
 use digits::Width;
 
 // The pattern of 2^23: from there on a float has no fraction, and the patterns count the whole numbers up.

@@ -9,7 +9,7 @@ ghost use Rattle.words.specs.Limits.{mostScalarDims};
 ghost use Rattle.digits.specs.Digits as d;
 ghost use Rattle.digits.specs.Digits.{bitsOf, isWidth, levels};
 ghost use Rattle.scalar.specs.Table.{apart, entryOf, rowBytes, tableBytes, tableSize};
-ghost use Rattle.scalar.specs.Calls.{Fine};
+ghost use Rattle.scalar.specs.Parts.{Fine};
 use digits::Width;
 use words::Metric;
 

@@ -10,7 +10,7 @@ use Rattle.words.specs.Lists.{anyAbove}
 use Rattle.words.proofs.ListLaws.{none-above}
 use Rattle.words.specs.Refusals.{badDims, badLength}
 use Rattle.words.proofs.RefusalLaws.{few-dims}
-use Rattle.sums.specs.Held.{Query}
+use Rattle.sums.specs.Sums.{QueryCodes}
 use Rattle.sums.specs.Calls.{sumNumber}
 
 module _ (dims : ℕ) (qs : List ℕ) (other : Bool) where
@@ -35,9 +35,9 @@ module _ (dims : ℕ) (qs : List ℕ) (other : Bool) where
   all-good d l o t = simp (d, l, o, t)
 
 -- a judged query
-pub query : (qs : List ℕ) → length qs ≤ mostDims → anyAbove topCode qs ≡ false → Query qs
+pub query : (qs : List ℕ) → length qs ≤ mostDims → anyAbove topCode qs ≡ false → QueryCodes qs
 query qs l a = record { few = l; small = none-above topCode qs a }
 
 -- the query of a call that is not refused
-pub judged : (dims : ℕ) (qs : List ℕ) → badDims mostDims dims ≡ false → length qs ≡ dims → anyAbove topCode qs ≡ false → Query qs
+pub judged : (dims : ℕ) (qs : List ℕ) → badDims mostDims dims ≡ false → length qs ≡ dims → anyAbove topCode qs ≡ false → QueryCodes qs
 judged dims qs d l t = query qs (omega (arith, few-dims mostDims dims d)) t

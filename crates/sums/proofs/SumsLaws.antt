@@ -16,8 +16,7 @@ use Rattle.code.proofs.CodeLaws.{code-bit-lt, code-words-bit}
 use Rattle.block.specs.Block.{blockGroups, laneNibble, laneBit, codeAt, packed}
 use Rattle.block.proofs.LaneLaws.{nibble-lt, lane-bit-lt}
 use Rattle.block.proofs.RoundLaws.{bit-of-block}
-use Rattle.sums.specs.Sums.{plainSum, planeCount, nibbleBit, wordsNibble, tableOf, tableCount, fastCount}
-use Rattle.sums.specs.Held.{Query}
+use Rattle.sums.specs.Sums.{plainSum, planeCount, nibbleBit, wordsNibble, tableOf, tableCount, fastCount, QueryCodes}
 use Rattle.sums.proofs.PlainLaws.{plain-ext, plain-le}
 use Rattle.sums.proofs.PlaneLaws.{planes-plain}
 use Rattle.sums.proofs.GroupLaws.{fast-plain, lane-bits}
@@ -58,8 +57,8 @@ pub record Counted (qs code block : List ℕ) : Type 0 where
   pub lane-table : (k : ℕ) → tableCount (tableOf qs) (laneNibble block k) (blockGroups (length qs)) ≡ plainSum qs (laneBit block k)
   pub lane-small : (k : ℕ) → plainSum qs (laneBit block k) ≤ 65535
 
-pub counted : (qs code block : List ℕ) → length qs ≤ 4369 → ((d : ℕ) → getD qs d 0 ≤ 15) → ((i : ℕ) → getD code i 0 < 256) → Counted qs code block
-counted qs code block few small bytes = record {
+pub counted : (qs code block : List ℕ) → QueryCodes qs → ((i : ℕ) → getD code i 0 < 256) → Counted qs code block
+counted qs code block q bytes = record {
   planes = planes-plain qs words q (λ i. omega (arith, getD-drop 16 code i 0, bytes (16 + i))) ∙ of-code (wordsBit words) (λ d. refl);
   table = count-plain qs (tableOf qs) (wordsNibble words) (table-of qs) (words-nibble-lt words) ∙ of-code (nibbleBit (wordsNibble words)) (words-bits words);
   small = plain-le qs (codeBit code) q (code-bit-lt code);
@@ -68,9 +67,6 @@ counted qs code block few small bytes = record {
   lane-small = λ k. plain-le qs (laneBit block k) q (lane-bit-lt block k);
 }
   where
-    q : Query qs
-    q = record { few = few; small = small }
-
     words : List ℕ
     words = drop 16 code
 

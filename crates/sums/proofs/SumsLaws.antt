@@ -10,10 +10,11 @@ use lib.Dec.{lit<}
 use lib.ListN.{length, getD, drop}
 use lib.Seq.{getD-drop}
 use Rattle.words.specs.Digits.{bit}
+use Rattle.words.specs.Lists.{recordOf}
 use Rattle.words.proofs.DigitLaws.{bit-low}
-use Rattle.code.specs.Code.{codeBit, wordsBit}
+use Rattle.code.specs.Code.{codeSize, codeBit, wordsBit}
 use Rattle.code.proofs.CodeLaws.{code-bit-lt, code-words-bit}
-use Rattle.block.specs.Block.{blockGroups, laneNibble, laneBit, codeAt, packed}
+use Rattle.block.specs.Block.{blockGroups, laneNibble, laneBit, blockOf, packedBlockByte, packedBlock}
 use Rattle.block.proofs.LaneLaws.{nibble-lt, lane-bit-lt}
 use Rattle.block.proofs.RoundLaws.{bit-of-block}
 use Rattle.sums.specs.Sums.{plainSum, planeCount, nibbleBit, wordsNibble, tableOf, tableCount, fastCount, QueryCodes}
@@ -79,9 +80,9 @@ counted qs code block q bytes = record {
 -- ---- packing keeps the sums: lane k of 32 packed codes has the sum of code k
 
 pub packed-sum : (qs codes : List ℕ) (k : ℕ) → k < 32
-    → plainSum qs (laneBit (packed (length qs) codes) k) ≡ plainSum qs (codeBit (codeAt (length qs) codes k))
-unfolding packed
+    → plainSum qs (laneBit (packedBlock (length qs) codes) k) ≡ plainSum qs (codeBit (recordOf (codeSize (length qs)) codes k))
+unfolding packedBlock packedBlockByte blockOf
 packed-sum qs codes k l =
-    plain-ext qs _ (codeBit (codeAt (length qs) codes k))
-    (λ d h. bit-of-block (length qs) (λ k i. getD (codeAt (length qs) codes k) i 0) (λ k. codeBit (codeAt (length qs) codes k))
-    (λ k d. code-bit-lt (codeAt (length qs) codes k) d) k d l h)
+    plain-ext qs _ (codeBit (recordOf (codeSize (length qs)) codes k))
+    (λ d h. bit-of-block (length qs) (λ k i. getD (recordOf (codeSize (length qs)) codes k) i 0) (λ k. codeBit (recordOf (codeSize (length qs)) codes k))
+    (λ k d. code-bit-lt (recordOf (codeSize (length qs)) codes k) d) k d l h)

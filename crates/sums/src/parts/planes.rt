@@ -82,7 +82,7 @@ fn fill_plane(q: &[u8], p: u32, t: &mut [u64], at: usize)
     }
 }
 
-// The planes of a query, in a buffer of ours or a longer one. The Rust's `binarize`.
+// The planes of a query, in a buffer of their size or a longer one. The Rust's `binarize`.
 pub fn binarize(q: &[u8], t: &mut [u64])
     requires { ⌜ (length (now q) ≤ mostDims) × (4 * codeWords (length (now q)) ≤ length (now t)) ⌝ }
     ensures { λ _. ⌜ Planes (now (q .entry)) (now (t .exit)) ⌝ }

@@ -7,7 +7,7 @@ use borrow.Author.Tests.{lt-ltb, le-ltb}
 use Rattle.words.specs.Limits.{mostDims}
 use Rattle.words.specs.Refusals.{after, answer, badDims, badLength}
 use Rattle.code.specs.Code.{codeSize}
-use Rattle.block.specs.Block.{blockSize, packed, laneCode}
+use Rattle.block.specs.Block.{blockSize, packedBlock, laneCode}
 use Rattle.block.specs.Calls.{packNumber, packAnswer, laneNumber, laneAnswer}
 
 module _ (dims : ℕ) (codes block : List ℕ) where
@@ -21,7 +21,7 @@ module _ (dims : ℕ) (codes block : List ℕ) where
   pack-length h l = rw (h, l) refl
 
   pub pack-accepted : badDims mostDims dims ≡ false → (badLength codes (32 * codeSize dims) || badLength block (blockSize dims)) ≡ false
-      → (0, packed dims codes) ≡ packAnswer dims codes block
+      → (0, packedBlock dims codes) ≡ packAnswer dims codes block
   unfolding packAnswer packNumber answer after
   pack-accepted h l = rw (h, l) refl
 

@@ -8,13 +8,13 @@ use native.Mathlib.Omega.{arith}
 use lib.ListN.{length, getD}
 use borrow.Author.Tests.{lt-ltb, le-ltb}
 use Rattle.words.specs.Digits.{bit, kept}
-use Rattle.words.specs.Lists.{joined}
+use Rattle.words.specs.Lists.{joined, recordOf}
 use Rattle.words.proofs.ListLaws.{joined-at, tabulate-at, tabulate-ext, filled}
 use Rattle.words.proofs.DigitLaws.{join-whole, lt-or-ge, kept-in, kept-lt, kept-ext, bits-lt, join-ext, bit-join}
 use Rattle.code.specs.Code.{codeSize, codeBit, codeOf, clearedCode}
 use Rattle.code.proofs.CodeLaws.{code-bit-lt, code-ext, length-code, factor-of-code, bit-of-code, made-cleared}
 use Rattle.block.specs.Block.{blockGroups, blockSize, laneFactor, laneNibble, laneBit, laneCode, groupNibble, groupByte, blockByte, blockOf}
-use Rattle.block.specs.Block.{codeAt, packed, clearedBlock, lanesOf}
+use Rattle.block.specs.Block.{packedBlockByte, packedBlock, clearedBlock, lanesOf}
 use Rattle.block.proofs.LaneLaws.{lane-bit-lt, lane-bit-at, nibble-lt, nibble-low, nibble-high}
 
 -- ---- a block made of factor bytes and bits
@@ -119,28 +119,28 @@ byte-of dims b g j = refl
 
 -- ---- the round trip
 
-pub lane-of-packed : (dims : ℕ) (codes : List ℕ) (k : ℕ) → k < 32 → laneCode dims (packed dims codes) k ≡ clearedCode dims (codeAt dims codes k)
-unfolding laneCode packed clearedCode
+pub lane-of-packed : (dims : ℕ) (codes : List ℕ) (k : ℕ) → k < 32 → laneCode dims (packedBlock dims codes) k ≡ clearedCode dims (recordOf (codeSize dims) codes k)
+unfolding laneCode packedBlock packedBlockByte blockOf clearedCode
 lane-of-packed dims codes k h =
-    code-ext dims (laneFactor (packed dims codes) k) (λ i. getD (codeAt dims codes k) i 0) (laneBit (packed dims codes) k) (codeBit (codeAt dims codes k))
-    (λ i l. factor-of-block dims factors bits k i h l) (λ d l. bit-of-block dims factors bits (λ k d. code-bit-lt (codeAt dims codes k) d) k d h l)
+    code-ext dims (laneFactor (packedBlock dims codes) k) (λ i. getD (recordOf (codeSize dims) codes k) i 0) (laneBit (packedBlock dims codes) k) (codeBit (recordOf (codeSize dims) codes k))
+    (λ i l. factor-of-block dims factors bits k i h l) (λ d l. bit-of-block dims factors bits (λ k d. code-bit-lt (recordOf (codeSize dims) codes k) d) k d h l)
   where
     factors : ℕ → ℕ → ℕ
-    factors k i = getD (codeAt dims codes k) i 0
+    factors k i = getD (recordOf (codeSize dims) codes k) i 0
 
     bits : ℕ → ℕ → ℕ
-    bits k = codeBit (codeAt dims codes k)
+    bits k = codeBit (recordOf (codeSize dims) codes k)
 
 -- code k of the lanes laid end to end is lane k
-pub code-of-lanes : (dims : ℕ) (block : List ℕ) (k : ℕ) → k < 32 → codeAt dims (lanesOf dims block) k ≡ laneCode dims block k
-unfolding codeAt lanesOf laneCode
+pub code-of-lanes : (dims : ℕ) (block : List ℕ) (k : ℕ) → k < 32 → recordOf (codeSize dims) (lanesOf dims block) k ≡ laneCode dims block k
+unfolding recordOf lanesOf laneCode
 code-of-lanes dims block k h =
     joined-at (codeSize dims) 32 k (laneCode dims block) (λ k _. length-code dims (laneFactor block k) (laneBit block k)) h
 
-pub packed-of-lanes : (dims : ℕ) (block : List ℕ) → packed dims (lanesOf dims block) ≡ clearedBlock dims block
-unfolding packed clearedBlock laneCode
+pub packed-of-lanes : (dims : ℕ) (block : List ℕ) → packedBlock dims (lanesOf dims block) ≡ clearedBlock dims block
+unfolding packedBlock packedBlockByte blockOf clearedBlock laneCode
 packed-of-lanes dims block =
-    block-ext dims (λ k i. getD (codeAt dims lanes k) i 0) (laneFactor block) (λ k. codeBit (codeAt dims lanes k)) (laneBit block)
+    block-ext dims (λ k i. getD (recordOf (codeSize dims) lanes k) i 0) (laneFactor block) (λ k. codeBit (recordOf (codeSize dims) lanes k)) (laneBit block)
     (λ k i h l. ap (λ (c : List ℕ). getD c i 0) (code-of-lanes dims block k h) ∙ factor-of-code dims (laneFactor block k) (laneBit block k) i l)
     (λ k d h l. ap (λ (c : List ℕ). codeBit c d) (code-of-lanes dims block k h)
     ∙ bit-of-code dims (laneFactor block k) (laneBit block k) (lane-bit-lt block k) d l)
@@ -150,14 +150,14 @@ packed-of-lanes dims block =
 
 -- demand 2: lane k of a packed block is code k with its pad bits 0, and the lanes of a block, packed, are the block with its pad bits 0
 pub round-trip : (dims : ℕ)
-    → ((codes : List ℕ) (k : ℕ) → k < 32 → laneCode dims (packed dims codes) k ≡ clearedCode dims (codeAt dims codes k))
-    × ((block : List ℕ) → packed dims (lanesOf dims block) ≡ clearedBlock dims block)
+    → ((codes : List ℕ) (k : ℕ) → k < 32 → laneCode dims (packedBlock dims codes) k ≡ clearedCode dims (recordOf (codeSize dims) codes k))
+    × ((block : List ℕ) → packedBlock dims (lanesOf dims block) ≡ clearedBlock dims block)
 round-trip dims = (lane-of-packed dims, packed-of-lanes dims)
 
 -- so 32 codes that were made with pad bits 0, as encode makes them, come back as they are
 pub coded-back : (dims : ℕ) (f b : ℕ → ℕ → ℕ) → ((k d : ℕ) → b k d < 2) → (k : ℕ) → k < 32
-    → laneCode dims (packed dims (joined 32 (λ k. codeOf dims (f k) (b k)))) k ≡ codeOf dims (f k) (b k)
-unfolding codeAt
+    → laneCode dims (packedBlock dims (joined 32 (λ k. codeOf dims (f k) (b k)))) k ≡ codeOf dims (f k) (b k)
+unfolding recordOf
 coded-back dims f b two k h =
     lane-of-packed dims (joined 32 (λ k. codeOf dims (f k) (b k))) k h
     ∙ ap (clearedCode dims) (joined-at (codeSize dims) 32 k (λ k. codeOf dims (f k) (b k)) (λ k _. length-code dims (f k) (b k)) h)

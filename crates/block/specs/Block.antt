@@ -2,10 +2,10 @@
 use Prim.Native.Nat.{ℕ, _+_, _-_, _*_, _/_, _%_, _^_}
 use mathlib.Core.Bool.{cond}
 use mathlib.Core.List.{List}
-use lib.ListN.{getD, take, drop}
+use lib.ListN.{getD}
 use lib.Dec.{ltb}
 use Rattle.words.specs.Digits.{bit, join, kept}
-use Rattle.words.specs.Lists.{tabulate, joined}
+use Rattle.words.specs.Lists.{tabulate, joined, recordOf}
 use Rattle.code.specs.Code.{codeSize, codeBit, codeOf}
 
 -- 512 bytes of factors, then 16 bytes for each group of four dimensions
@@ -48,16 +48,13 @@ blockByte dims f b i =
 unfoldable pub blockOf : ℕ → (ℕ → ℕ → ℕ) → (ℕ → ℕ → ℕ) → List ℕ
 blockOf dims f b = tabulate (blockSize dims) (blockByte dims f b)
 
--- code k of codes laid end to end
-unfoldable pub codeAt : ℕ → List ℕ → ℕ → List ℕ
-codeAt dims codes k = take (codeSize dims) (drop (codeSize dims * k) codes)
+-- byte i of the block built from 32 codes laid end to end, and the block
+unfoldable pub packedBlockByte : ℕ → List ℕ → ℕ → ℕ
+packedBlockByte dims codes =
+    blockByte dims (λ k i. getD (recordOf (codeSize dims) codes k) i 0) (λ k. codeBit (recordOf (codeSize dims) codes k))
 
--- the block built from 32 codes laid end to end, and byte i of it
-unfoldable pub packedByte : ℕ → List ℕ → ℕ → ℕ
-packedByte dims codes = blockByte dims (λ k i. getD (codeAt dims codes k) i 0) (λ k. codeBit (codeAt dims codes k))
-
-unfoldable pub packed : ℕ → List ℕ → List ℕ
-packed dims codes = blockOf dims (λ k i. getD (codeAt dims codes k) i 0) (λ k. codeBit (codeAt dims codes k))
+unfoldable pub packedBlock : ℕ → List ℕ → List ℕ
+packedBlock dims codes = tabulate (blockSize dims) (packedBlockByte dims codes)
 
 -- a block with its pad bits 0
 unfoldable pub clearedBlock : ℕ → List ℕ → List ℕ

@@ -7,7 +7,7 @@ use Rattle.words.specs.Limits.{mostDims}
 use Rattle.words.specs.Refusals.{answer, badDims, badLength}
 use Rattle.words.specs.Refusals as table
 use Rattle.code.specs.Code.{codeSize}
-use Rattle.block.specs.Block.{blockSize, packed, laneCode}
+use Rattle.block.specs.Block.{blockSize, packedBlock, laneCode}
 
 -- ---- the size of a block: BAD_DIMS, BAD_LENGTH
 
@@ -21,7 +21,7 @@ packNumber dims codes block =
     (cond (badLength codes (32 * codeSize dims) || badLength block (blockSize dims)) 3 0)
 
 unfoldable pub packAnswer : ℕ → List ℕ → List ℕ → ℕ × List ℕ
-packAnswer dims codes block = answer (packNumber dims codes block) block (packed dims codes)
+packAnswer dims codes block = answer (packNumber dims codes block) block (packedBlock dims codes)
 
 -- BAD_DIMS, BAD_LENGTH, OUT_OF_RANGE
 unfoldable pub laneNumber : ℕ → List ℕ → ℕ → List ℕ → ℕ

@@ -2,10 +2,10 @@
 ghost use mathlib.Core.Path.{_≡_};
 ghost use Prim.Native.Nat.{ℕ, _+_, _-_, _*_, _/_, _%_, _^_, _<_, _≤_, min};
 ghost use lib.ListN.{length, getD};
-ghost use Rattle.words.specs.Digits.{join, kept};
 ghost use Rattle.words.specs.Limits.{mostDims};
+ghost use Rattle.words.specs.Lists.{recordOf};
 ghost use Rattle.code.specs.Code.{codeSize, codeBit, codeByte};
-ghost use Rattle.block.specs.Block.{blockGroups, blockSize, laneFactor, laneNibble, laneBit, laneCode, groupNibble, codeAt, packedByte, packed};
+ghost use Rattle.block.specs.Block.{blockGroups, blockSize, laneFactor, laneNibble, laneBit, laneCode, groupNibble, packedBlockByte, packedBlock};
 use words::byte_at;
 
 pub fn size(dims: usize) -> usize
@@ -43,7 +43,7 @@ fn start(dims: usize, k: usize) -> usize
 // The nibble that a block has of code k in group g.
 fn code_nibble(codes: &[u8], dims: usize, g: usize, k: usize) -> u8
     requires { ⌜ (dims ≤ mostDims) × (k < 32) × (g < blockGroups dims) × (length (now codes) ≡ 32 * codeSize dims) ⌝ }
-    ensures { λ r. ⌜ (r ≡ groupNibble dims (λ k. codeBit (codeAt dims (now (codes .entry)) k)) g k) × (r < 16) ⌝ }
+    ensures { λ r. ⌜ (r ≡ groupNibble dims (λ k. codeBit (recordOf (codeSize dims) (now (codes .entry)) k)) g k) × (r < 16) ⌝ }
 {
     let at = start(dims, k) + 16 + g / 2;
     half(cleared(codes[at], dims - 8 * (g / 2)), g)
@@ -52,8 +52,8 @@ fn code_nibble(codes: &[u8], dims: usize, g: usize, k: usize) -> u8
 // Group g of the block of 32 codes, after the bytes before it.
 fn put_group(codes: &[u8], dims: usize, g: usize, block: &mut [u8])
     requires { ⌜ (dims ≤ mostDims) × (g < blockGroups dims) × (length (now codes) ≡ 32 * codeSize dims) × (length (now block) ≡ blockSize dims) ⌝ }
-    requires { ⌜ ((i : ℕ) → i < 512 + 16 * g → getD (now block) i 0 ≡ packedByte dims (now codes) i) ⌝ }
-    ensures { λ _. ⌜ ((i : ℕ) → i < 512 + 16 * g + 16 → getD (now (block .exit)) i 0 ≡ packedByte dims (now (codes .entry)) i) ⌝ }
+    requires { ⌜ ((i : ℕ) → i < 512 + 16 * g → getD (now block) i 0 ≡ packedBlockByte dims (now codes) i) ⌝ }
+    ensures { λ _. ⌜ ((i : ℕ) → i < 512 + 16 * g + 16 → getD (now (block .exit)) i 0 ≡ packedBlockByte dims (now (codes .entry)) i) ⌝ }
 {
     let mut j = 0usize;
     while j < 16 {
@@ -67,7 +67,7 @@ fn put_group(codes: &[u8], dims: usize, g: usize, block: &mut [u8])
 // Byte i of a block's factors: byte i % 4 of factor i / 128 of code i % 128 / 4.
 fn factor_byte(codes: &[u8], dims: usize, i: usize) -> u8
     requires { ⌜ (dims ≤ mostDims) × (i < 512) × (length (now codes) ≡ 32 * codeSize dims) ⌝ }
-    ensures { λ r. ⌜ r ≡ packedByte dims (now (codes .entry)) i ⌝ }
+    ensures { λ r. ⌜ r ≡ packedBlockByte dims (now (codes .entry)) i ⌝ }
 {
     let at = start(dims, i % 128 / 4) + (4 * (i / 128) + i % 4);
     codes[at]
@@ -75,7 +75,7 @@ fn factor_byte(codes: &[u8], dims: usize, i: usize) -> u8
 
 fn put_factors(codes: &[u8], dims: usize, block: &mut [u8])
     requires { ⌜ (dims ≤ mostDims) × (length (now codes) ≡ 32 * codeSize dims) × (length (now block) ≡ blockSize dims) ⌝ }
-    ensures { λ _. ⌜ ((i : ℕ) → i < 512 → getD (now (block .exit)) i 0 ≡ packedByte dims (now (codes .entry)) i) ⌝ }
+    ensures { λ _. ⌜ ((i : ℕ) → i < 512 → getD (now (block .exit)) i 0 ≡ packedBlockByte dims (now (codes .entry)) i) ⌝ }
 {
     let mut i = 0usize;
     while i < 512 {
@@ -87,7 +87,7 @@ fn put_factors(codes: &[u8], dims: usize, block: &mut [u8])
 // The block of 32 codes laid end to end: the Rust's `fscan_encode`, and `pack` of b4.rs in our lane order.
 pub fn pack(codes: &[u8], dims: usize, block: &mut [u8])
     requires { ⌜ (dims ≤ mostDims) × (length (now codes) ≡ 32 * codeSize dims) × (length (now block) ≡ blockSize dims) ⌝ }
-    ensures { λ _. ⌜ now (block .exit) ≡ packed dims (now (codes .entry)) ⌝ }
+    ensures { λ _. ⌜ now (block .exit) ≡ packedBlock dims (now (codes .entry)) ⌝ }
 {
     put_factors(codes, dims, block);
     let n = (dims + 3) / 4;

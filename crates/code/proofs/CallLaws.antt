@@ -9,8 +9,8 @@ use Rattle.words.specs.Bytes.{bytesOf}
 use Rattle.words.specs.Floats.{missing}
 use Rattle.words.specs.Limits.{mostDims}
 use Rattle.words.specs.Refusals.{after, answer, badDims, badLength}
-use Rattle.code.specs.Code.{codeSize, codeBit, codeOf}
-use Rattle.code.specs.Calls.{signClear, encodeNumber, encodeAnswer, bitNumber, bitAnswer}
+use Rattle.code.specs.Code.{codeSize, codeBit, codeOf, signClear}
+use Rattle.code.specs.Calls.{encodeNumber, encodeAnswer, bitNumber, bitAnswer}
 
 -- ---- encode
 

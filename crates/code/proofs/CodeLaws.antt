@@ -12,8 +12,7 @@ use Rattle.words.specs.Bytes.{numAt}
 use Rattle.words.specs.Digits.{bit, join, kept}
 use Rattle.words.proofs.ListLaws.{length-tabulate, tabulate-at, tabulate-ext, filled}
 use Rattle.words.proofs.DigitLaws.{bit-lt, bit-low, bit-high, bit-join, lt-or-ge, kept-in, kept-out, kept-ext, kept-lt, join-ext, join-whole}
-use Rattle.code.specs.Calls.{signClear}
-use Rattle.code.specs.Code.{codeWords, codeSize, codeWord, codeBit, wordsBit, codeByte, codeOf, clearedCode}
+use Rattle.code.specs.Code.{signClear, codeWords, codeSize, codeWord, codeBit, wordsBit, codeByte, codeOf, clearedCode}
 
 pub code-bit-lt : (code : List ℕ) (d : ℕ) → codeBit code d < 2
 unfolding codeBit

@@ -1,15 +1,15 @@
 -- Module 4: what its calls answer. A table of refusal numbers gives the smallest that holds.
-use Prim.Native.Nat.{ℕ, _-_, _*_, _/_, _^_}
+use Prim.Native.Nat.{ℕ, _*_}
 use mathlib.Core.Bool.{_||_, cond}
 use mathlib.Core.List.{List}
 use lib.Dec.{leb}
 use lib.ListN.{getD}
-use Rattle.words.specs.Bytes.{numAt, bytesOf}
+use Rattle.words.specs.Bytes.{bytesOf}
 use Rattle.words.specs.Floats.{missing}
 use Rattle.words.specs.Limits.{mostDims}
 use Rattle.words.specs.Refusals.{answer, badDims, badLength}
 use Rattle.words.specs.Refusals as table
-use Rattle.code.specs.Code.{codeSize, codeBit, codeOf}
+use Rattle.code.specs.Code.{codeSize, codeBit, codeOf, signClear}
 
 -- ---- the size of a single code: BAD_DIMS, BAD_LENGTH
 
@@ -17,10 +17,6 @@ abbrev pub sizeAnswer : ℕ → List ℕ → ℕ × List ℕ
 sizeAnswer dims out = table.sizeAnswer dims (codeSize dims) out
 
 -- ---- encode
-
--- dimension d's bit: 1 where the sign bit of its float, bit 31, is clear. So -0.0 gives 0
-unfoldable pub signClear : List ℕ → ℕ → ℕ
-signClear vector d = 1 - numAt 4 vector (4 * d) / 2 ^ 31
 
 -- BAD_DIMS, BAD_LENGTH, MISSING
 unfoldable pub encodeNumber : ℕ → List ℕ → List ℕ → List ℕ → ℕ

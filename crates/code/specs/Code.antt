@@ -1,5 +1,5 @@
 -- Module 4, the single code: its layout.
-use Prim.Native.Nat.{ℕ, _+_, _-_, _*_, _/_, _%_}
+use Prim.Native.Nat.{ℕ, _+_, _-_, _*_, _/_, _%_, _^_}
 use mathlib.Core.Bool.{cond}
 use mathlib.Core.List.{List}
 use lib.ListN.{getD}
@@ -38,3 +38,7 @@ codeOf dims f b = tabulate (codeSize dims) (codeByte dims f b)
 -- a code with its pad bits 0
 unfoldable pub clearedCode : ℕ → List ℕ → List ℕ
 clearedCode dims code = codeOf dims (λ i. getD code i 0) (codeBit code)
+
+-- the bit that encode gives dimension d of a vector: 1 where the sign bit of its float, bit 31, is clear. So -0.0 gives 0
+unfoldable pub signClear : List ℕ → ℕ → ℕ
+signClear vector d = 1 - numAt 4 vector (4 * d) / 2 ^ 31

@@ -3,6 +3,7 @@ use Prim.Native.Nat.{ℕ, _<_, _≤_}
 use mathlib.Core.Bool.{Bool, true, false, _||_, cond}
 use mathlib.Core.List.{List}
 use mathlib.Core.Path.{_≡_, refl, sym, ap, _∙_}
+use native.Mathlib.Omega.{arith}
 use borrow.Author.Tests.{le-leb, lt-leb}
 use Rattle.words.specs.Bytes.{bytesOf}
 use Rattle.words.specs.Limits.{mostScalarDims}
@@ -15,6 +16,19 @@ use Rattle.digits.specs.declared.Found.the-variants as found
 use Rattle.digits.specs.Digits.{bitsOf, isWidth, top, packedSize, digitAt, packed}
 use Rattle.digits.specs.Found.{foundBits}
 use Rattle.digits.specs.Calls.{sizeNumber, sizeAnswer, packNumber, packAnswer, readNumber, readAnswer}
+
+-- ---- the width that was found, or none
+
+is-width : (b : Bool) → _≡_ {A = ℕ} 0 (cond b 0 2) → b ≡ true
+is-width true e = refl
+is-width false e = absurd (omega arith)
+
+no-width : (b : Bool) → _≡_ {A = ℕ} 2 (cond b 0 2) → b ≡ false
+no-width true e = absurd (omega arith)
+no-width false e = refl
+
+pub bad-width : {n : ℕ} {r : Found} → foundBits r n → r ≡ found.BadWidth → isWidth n ≡ false
+bad-width {n} h g = no-width (isWidth n) ((rw g at h) .0)
 
 -- ---- the dims and the width of a call, here and in the scalar crate
 
@@ -29,7 +43,7 @@ pub judge : (dims bits : ℕ) (b : Bool) (r : Found) (w : Width) → b ≡ badDi
 judge dims bits b r w e f h g =
     let d = sym e ∙ f in
     let found = rw g at h in
-    record { dims-fine = d; few = few-dims mostScalarDims dims d; width-fine = found .0; bits-are = found .1 }
+    record { dims-fine = d; few = few-dims mostScalarDims dims d; width-fine = is-width (isWidth bits) (found .0); bits-are = found .1 }
 
 -- a size in the bits of the width is one in the bits
 pub size-of : {dims bits : ℕ} {w : Width} → Judged dims bits w → packedSize (bitsOf w) dims ≡ packedSize bits dims

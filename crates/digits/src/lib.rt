@@ -1,7 +1,7 @@
 // Module 1: codes of 1, 2, 4 or 8 bits in bytes.
 ghost use mathlib.Core.Path.{_≡_};
 ghost use Rattle.digits.specs.Found.{foundBits};
-ghost use Rattle.digits.specs.Digits.{bitsOf, levels, top, perByte};
+ghost use Rattle.digits.specs.Digits.{bitsOf, top};
 ghost use Rattle.digits.specs.Calls.{sizeAnswer, packAnswer, readAnswer};
 
 pub mod parts;
@@ -68,38 +68,16 @@ impl Width {
         Width::Eight
     }
 
-    // The width of a number of bits.
+    // The width of that many bits, or BAD_WIDTH.
     pub fn of_bits(bits: u32) -> Found
         ensures { λ r. ⌜ foundBits r bits ⌝ }
     {
         match bits {
-            1 => Found::Width(Width::One),
-            2 => Found::Width(Width::Two),
-            4 => Found::Width(Width::Four),
-            8 => Found::Width(Width::Eight),
+            1 => Found::Width(Width::one()),
+            2 => Found::Width(Width::two()),
+            4 => Found::Width(Width::four()),
+            8 => Found::Width(Width::eight()),
             _ => Found::BadWidth,
-        }
-    }
-
-    pub fn bits(self) -> u32
-        ensures { λ r. ⌜ r ≡ bitsOf self ⌝ }
-    {
-        match self {
-            Width::One => 1,
-            Width::Two => 2,
-            Width::Four => 4,
-            Width::Eight => 8,
-        }
-    }
-
-    pub fn levels(self) -> u32
-        ensures { λ r. ⌜ r ≡ levels (bitsOf self) ⌝ }
-    {
-        match self {
-            Width::One => Width::LEVELS_1,
-            Width::Two => Width::LEVELS_2,
-            Width::Four => Width::LEVELS_4,
-            Width::Eight => Width::LEVELS_8,
         }
     }
 
@@ -111,17 +89,6 @@ impl Width {
             Width::Two => Width::TOP_2,
             Width::Four => Width::TOP_4,
             Width::Eight => Width::TOP_8,
-        }
-    }
-
-    pub fn codes_per_byte(self) -> usize
-        ensures { λ r. ⌜ r ≡ perByte (bitsOf self) ⌝ }
-    {
-        match self {
-            Width::One => Width::CODES_PER_BYTE_1,
-            Width::Two => Width::CODES_PER_BYTE_2,
-            Width::Four => Width::CODES_PER_BYTE_4,
-            Width::Eight => Width::CODES_PER_BYTE_8,
         }
     }
 }

@@ -2,7 +2,7 @@
 // a literal for each width: LLVM makes a loop of its own of each, and one proof serves the four.
 ghost use mathlib.Core.Path.{_≡_};
 ghost use mathlib.Core.Bool.{true, false};
-ghost use Prim.Native.Nat.{ℕ, _+_, _*_, _/_, _%_, _^_, _≤_, _<_};
+ghost use Prim.Native.Nat.{_+_, _/_, _%_, _^_, _≤_, _<_};
 ghost use lib.ListN.{length, getD};
 ghost use Rattle.words.specs.Bytes.{numAt};
 ghost use Rattle.words.specs.Digits.{join};

@@ -15,7 +15,7 @@ use Rattle.words.specs.Refusals.{orElse, badDims, badLength, badForm}
 use Rattle.words.proofs.RefusalLaws.{length-is, refuses-as, no-row, neither, sized, unsized, few-dims, else-first, else-second, accepts, refuses}
 use Rattle.code.specs.Code.{codeSize}
 use Rattle.block.specs.Block.{blockSize}
-use Rattle.sums.specs.Held as held
+use Rattle.sums.specs.Sums.{QueryCodes}
 use Rattle.sums.proofs.CallLaws.{query}
 use Rattle.estimate.specs.declared.Asked.{Asked}
 use Rattle.estimate.specs.declared.Query.{Query}
@@ -63,7 +63,7 @@ module _ (dims : ℕ) (other : Bool) (v : Query) (qs : List ℕ) (form : Bool) w
 
   -- what a call knows that none of them refuses
   pub record Accepted : Type 0 where
-    pub codes : held.Query qs
+    pub codes : QueryCodes qs
     pub size : length qs ≡ dims
     pub others : other ≡ false
     pub formed : form ≡ false
@@ -92,7 +92,7 @@ module _ (metric dims size room : ℕ) (v : Query) (qs rec out : List ℕ) where
   judged r size′ es e = e ∙ rw es refl
 
   pub record Sized : Type 0 where
-    pub codes : held.Query qs
+    pub codes : QueryCodes qs
     pub query-is : length qs ≡ dims
     pub rec-is : length rec ≡ size
     pub out-is : length out ≡ room

@@ -21,15 +21,16 @@ use Rattle.words.proofs.WordsLaws.{words-ext, words-more}
 use Rattle.code.specs.declared.parts.reader.Factors.{Factors}
 use Rattle.code.specs.Code.{codeBit, wordsBit}
 use Rattle.code.proofs.CodeLaws.{code-words-bit}
-use Rattle.sums.specs.Held.{LaneSums}
+use Rattle.sums.specs.Parts.{LaneSums}
 use Rattle.sums.specs.Sums.{plainSum}
 use Rattle.sums.proofs.PlainLaws.{plain-ext}
 use Rattle.estimate.specs.declared.Asked.{Asked}
 use Rattle.estimate.specs.declared.Asked.the-variants.{Rough, LowerBound}
 use Rattle.estimate.specs.declared.Query.{Query}
 use Rattle.estimate.specs.declared.Ready.{Ready}
-use Rattle.estimate.specs.Estimate.{_⊕_, _⊗_, halved, near, far, rough, spread, lowerBound, estimate}
-use Rattle.estimate.specs.Record.{estimateOf, laneFactors, laneEstimate, laneWords, estimateWords, IsReady}
+use Rattle.estimate.specs.Estimate.{_⊕_, _⊗_, halved, ppcTerm, ipTerm, rough, twoSMinusQ, lowerBound, estimate}
+use Rattle.estimate.specs.Parts.{estimateWords, IsReady}
+use Rattle.estimate.specs.Record.{estimateOf, laneFactors, laneEstimate, laneWords}
 
 -- a sum is turned to f32 without loss
 pub sum-in-float : (n : ℕ) → n ≤ mostSum → T (inFloat binary32 (pos n))
@@ -46,13 +47,13 @@ estimate-fits LowerBound m v f s q = sub-fits binary32 _ _
 -- ---- the rough estimate from its two terms
 
 module _ (m : Metric) (v : Query) (f : Factors) (s q : ℕ) (a b : Float) where
-  module _ (ea : a ≡ halved m (v .b ⊗ f .«factor_ppc»)) (eb : b ≡ halved m ((spread s q ⊗ f .«factor_ip») ⊗ v .k)) where
+  module _ (ea : a ≡ halved m (v .b ⊗ f .«factor_ppc»)) (eb : b ≡ halved m ((twoSMinusQ s q ⊗ f .«factor_ip») ⊗ v .k)) where
     pub rough-l2 : m ≡ L2 → ((f .«dis_u_2» ⊕ v .«dis_v_2») ⊕ a) ⊕ b ≡ rough m v f s q
-    unfolding rough near far
+    unfolding rough ppcTerm ipTerm
     rough-l2 e = rw (ea, eb, e) refl
 
     pub rough-dot : m ≡ Dot → a ⊕ b ≡ rough m v f s q
-    unfolding rough near far
+    unfolding rough ppcTerm ipTerm
     rough-dot e = rw (ea, eb, e) refl
 
 -- what the code works out from what is made once is the estimate of the record

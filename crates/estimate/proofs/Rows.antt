@@ -7,7 +7,7 @@ use Rattle.words.specs.declared.Metric.the-variants.{L2, Dot}
 use Rattle.root.specs.Root.{rootOf}
 use Rattle.code.specs.declared.parts.reader.Factors.{Factors}
 use Rattle.estimate.specs.declared.Query.{Query}
-use Rattle.estimate.specs.Estimate.{queryOf, halved, near, far, rough, err, rootFloat, spread, lowerBound}
+use Rattle.estimate.specs.Estimate.{queryOf, halved, ppcTerm, ipTerm, rough, err, rootFloat, twoSMinusQ, lowerBound}
 
 abbrev pub float : ℕ → Float
 float = ofBits binary32
@@ -24,5 +24,5 @@ factors = record { «dis_u_2» = float 0x3F80_0000; «factor_ppc» = float 0; «
 pub worked : map (toBits binary32)
     (rough L2 query factors 26 27 ∷ rough Dot query factors 26 27 ∷ lowerBound L2 query factors 26 27 ∷ lowerBound Dot query factors 26 27 ∷ [])
     ≡ (0xC0F0_0000 ∷ 0xC0C8_0000 ∷ 0xC107_3333 ∷ 0xC0D7_3333 ∷ [])
-unfolding rough near far halved lowerBound err rootFloat rootOf spread add sub mul ofInt ofBits toBits
+unfolding rough ppcTerm ipTerm halved lowerBound err rootFloat rootOf twoSMinusQ add sub mul ofInt ofBits toBits
 worked = refl

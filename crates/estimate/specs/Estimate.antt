@@ -1,4 +1,4 @@
--- Module 7, estimates: the paper's formulas. Each operation rounds once, from the left.
+-- Module 7, estimates: the paper's formulas. Each operation rounds once, from the left. s and q are the paper's S and Q.
 use Prim.Native.Nat.{ℕ}
 use lib.IntN.{pos}
 use lib.Ieee.{Float, nan, binary32, add, sub, mul, ofInt, ofBits}
@@ -38,8 +38,8 @@ abbrev pub epsilon : Float
 epsilon = ofBits binary32 0x3FF3_3333
 
 -- 2*S - Q, both turned to f32
-unfoldable pub spread : ℕ → ℕ → Float
-spread s q = (two ⊗ ofInt binary32 (pos s)) ⊖ ofInt binary32 (pos q)
+unfoldable pub twoSMinusQ : ℕ → ℕ → Float
+twoSMinusQ s q = (two ⊗ ofInt binary32 (pos s)) ⊖ ofInt binary32 (pos q)
 
 -- a term of L2, and half of it for dot: each half is taken last
 unfoldable pub halved : Metric → Float → Float
@@ -47,17 +47,17 @@ halved L2 x = x
 halved Dot x = half ⊗ x
 
 -- b*factor_ppc
-unfoldable pub near : Metric → Query → Factors → Float
-near m v f = halved m (v .b ⊗ f .«factor_ppc»)
+unfoldable pub ppcTerm : Metric → Query → Factors → Float
+ppcTerm m v f = halved m (v .b ⊗ f .«factor_ppc»)
 
 -- ((2*S - Q)*factor_ip)*k
-unfoldable pub far : Metric → Query → Factors → ℕ → ℕ → Float
-far m v f s q = halved m ((spread s q ⊗ f .«factor_ip») ⊗ v .k)
+unfoldable pub ipTerm : Metric → Query → Factors → ℕ → ℕ → Float
+ipTerm m v f s q = halved m ((twoSMinusQ s q ⊗ f .«factor_ip») ⊗ v .k)
 
 -- L2: ((dis_u_2 + dis_v_2) + b*factor_ppc) + ((2*S - Q)*factor_ip)*k; dot has the two halves alone
 unfoldable pub rough : Metric → Query → Factors → ℕ → ℕ → Float
-rough L2 v f s q = ((f .«dis_u_2» ⊕ v .«dis_v_2») ⊕ near L2 v f) ⊕ far L2 v f s q
-rough Dot v f s q = near Dot v f ⊕ far Dot v f s q
+rough L2 v f s q = ((f .«dis_u_2» ⊕ v .«dis_v_2») ⊕ ppcTerm L2 v f) ⊕ ipTerm L2 v f s q
+rough Dot v f s q = ppcTerm Dot v f ⊕ ipTerm Dot v f s q
 
 -- root(dis_v_2) by module 3. An accepted query has one
 unfoldable pub rootFloat : Float → Float

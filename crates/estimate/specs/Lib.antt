@@ -1,3 +1,4 @@
 pub mod Estimate
 pub mod Record
+pub mod Parts
 pub mod Calls

@@ -1,11 +1,8 @@
 -- The estimate of a record in bytes: of a single code, and of a lane of a block.
-use mathlib.Core.Path.{_≡_}
-use Prim.Native.Nat.{ℕ, _+_, _≤_, _<_}
+use Prim.Native.Nat.{ℕ, _+_}
 use mathlib.Core.List.{List}
-use lib.ListN.{length, getD}
 use lib.Ieee.{Float, toBits, binary32}
 use Rattle.words.specs.Bytes.{f32At, wordsOf}
-use Rattle.words.specs.Limits.{mostSum}
 use Rattle.words.specs.declared.Metric.{Metric}
 use Rattle.code.specs.declared.parts.reader.Factors.{Factors}
 use Rattle.code.specs.Code.{codeBit}
@@ -14,8 +11,7 @@ use Rattle.block.specs.Block.{laneBit}
 use Rattle.sums.specs.Sums.{plainSum, querySum}
 use Rattle.estimate.specs.declared.Asked.{Asked}
 use Rattle.estimate.specs.declared.Query.{Query}
-use Rattle.estimate.specs.declared.Ready.{Ready}
-use Rattle.estimate.specs.Estimate.{estimate, rootFloat}
+use Rattle.estimate.specs.Estimate.{estimate}
 
 -- of a record with the factors f and the bits b: S is the sum of the query codes qs at the set bits, Q that of all of them
 unfoldable pub estimateOf : Asked → Metric → Query → List ℕ → Factors → (ℕ → ℕ) → Float
@@ -39,20 +35,3 @@ laneEstimate w m v qs block k = estimateOf w m v qs (laneFactors block k) (laneB
 -- the estimates of the 32 lanes, lane 0 first, four bytes each
 unfoldable pub laneWords : Asked → Metric → Query → List ℕ → List ℕ → List ℕ
 laneWords w m v qs block = wordsOf 32 (λ k. toBits binary32 (laneEstimate w m v qs block k))
-
--- what is made once of a query record with the codes qs: root(dis_v_2) and Q
-pub record IsReady (qs : List ℕ) (p : Ready) : Type 0 where
-  pub root : p .root ≡ rootFloat (p .v .«dis_v_2»)
-  pub total : p .total ≡ querySum qs
-  pub fits : p .total ≤ mostSum
-
--- what is worked out of it and of the sums of 32 lanes is exact
-pub record Fits (p : Ready) (s : List ℕ) : Type 0 where
-  pub root : p .root ≡ rootFloat (p .v .«dis_v_2»)
-  pub total : p .total ≤ mostSum
-  pub long : length s ≡ 32
-  pub sums : (k : ℕ) → k < 32 → getD s k 0 ≤ mostSum
-
--- the estimates of the first n lanes, from their sums s
-abbrev pub estimateWords : ℕ → Asked → Metric → Ready → List ℕ → List ℕ → List ℕ
-estimateWords n w m p s block = wordsOf n (λ k. toBits binary32 (estimate w m (p .v) (laneFactors block k) (getD s k 0) (p .total)))

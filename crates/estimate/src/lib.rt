@@ -4,7 +4,7 @@ ghost use Prim.Native.Nat.{_*_, _≤_};
 ghost use lib.ListN.{length};
 ghost use Rattle.code.specs.Code.{codeSize};
 ghost use Rattle.block.specs.Block.{blockGroups, blockSize};
-ghost use Rattle.sums.specs.Held.{Query as Codes};
+ghost use Rattle.sums.specs.Sums.{QueryCodes};
 ghost use Rattle.estimate.specs.Record.{codeEstimate, laneWords};
 ghost use Rattle.estimate.specs.Calls.{codeAnswer, blockAnswer};
 use sums::parts::FEW_DIMS;
@@ -48,7 +48,7 @@ pub struct Ready {
 
 // One code, with planes of its own.
 fn one_code(w: Asked, m: Metric, v: Query, q: &[u8], code: &[u8]) -> f32
-    requires { ⌜ Codes (now q) × (length (now code) ≡ codeSize (length (now q))) ⌝ }
+    requires { ⌜ QueryCodes (now q) × (length (now code) ≡ codeSize (length (now q))) ⌝ }
     ensures { λ r. ⌜ r ≡ codeEstimate w m v (now (q .entry)) (now (code .entry)) ⌝ }
 {
     let mut planes = [0u64; PLANES];
@@ -66,7 +66,7 @@ fn table_block(
     block: &[u8],
     out: &mut [u8],
 )
-    requires { ⌜ Codes (now q) × (length (now block) ≡ blockSize (length (now q))) × (length (now out) ≡ 128) ⌝ }
+    requires { ⌜ QueryCodes (now q) × (length (now block) ≡ blockSize (length (now q))) × (length (now out) ≡ 128) ⌝ }
     requires { ⌜ 64 * blockGroups (length (now q)) ≤ length (now table) ⌝ }
     ensures { λ _. ⌜ now (out .exit) ≡ laneWords w m v (now (q .entry)) (now (block .entry)) ⌝ }
 {
@@ -76,7 +76,7 @@ fn table_block(
 
 // The 32 lanes of one block, with a table of their own.
 fn one_block(w: Asked, m: Metric, v: Query, q: &[u8], block: &[u8], out: &mut [u8])
-    requires { ⌜ Codes (now q) × (length (now block) ≡ blockSize (length (now q))) × (length (now out) ≡ 128) ⌝ }
+    requires { ⌜ QueryCodes (now q) × (length (now block) ≡ blockSize (length (now q))) × (length (now out) ≡ 128) ⌝ }
     ensures { λ _. ⌜ now (out .exit) ≡ laneWords w m v (now (q .entry)) (now (block .entry)) ⌝ }
 {
     if q.len() <= FEW_DIMS {

@@ -10,10 +10,11 @@ ghost use Rattle.words.specs.Floats.{notFinite, anyNan};
 ghost use Rattle.words.specs.Limits.{mostDims, mostSum};
 ghost use Rattle.words.specs.Refusals.{badDims, badForm};
 ghost use Rattle.code.specs.Code.{codeSize};
-ghost use Rattle.sums.specs.Held as held;
-ghost use Rattle.sums.specs.Held.{Query as Codes, Planes};
+ghost use Rattle.sums.specs.Sums.{QueryCodes};
+ghost use Rattle.sums.specs.Parts.{Planes, BlockReady};
 ghost use Rattle.estimate.specs.Estimate.{halved, rough, lowerBound, estimate, rootFloat};
-ghost use Rattle.estimate.specs.Record.{laneFactors, codeEstimate, laneWords, IsReady, Fits, estimateWords};
+ghost use Rattle.estimate.specs.Parts.{IsReady, Fits, estimateWords};
+ghost use Rattle.estimate.specs.Record.{laneFactors, codeEstimate, laneWords};
 ghost use Rattle.estimate.specs.Calls.{missingQuery, badQuery, queryNumber};
 use crate::Asked;
 use crate::Query;
@@ -58,12 +59,12 @@ fn rough_of(m: Metric, v: Query, f: Factors, s: u32, q: u32) -> f32
     requires { ⌜ (s ≤ mostSum) × (q ≤ mostSum) ⌝ }
     ensures { λ r. ⌜ r ≡ rough m v f s q ⌝ }
 {
-    let near = halved(m, v.b * f.factor_ppc);
-    let spread = 2.0 * float_of(s) - float_of(q);
-    let far = halved(m, spread * f.factor_ip * v.k);
+    let ppc_term = halved(m, v.b * f.factor_ppc);
+    let two_s_minus_q = 2.0 * float_of(s) - float_of(q);
+    let ip_term = halved(m, two_s_minus_q * f.factor_ip * v.k);
     match m {
-        Metric::L2 => f.dis_u_2 + v.dis_v_2 + near + far,
-        Metric::Dot => near + far,
+        Metric::L2 => f.dis_u_2 + v.dis_v_2 + ppc_term + ip_term,
+        Metric::Dot => ppc_term + ip_term,
     }
 }
 
@@ -84,16 +85,6 @@ fn estimate_of(w: Asked, m: Metric, p: Ready, f: Factors, s: u32) -> f32
     match w {
         Asked::Rough => rough_of(m, v, f, s, p.total),
         Asked::LowerBound => bound_of(m, v, p.root, f, s, p.total),
-    }
-}
-
-fn root_of(x: f32) -> f32
-    ensures { λ r. ⌜ r ≡ rootFloat x ⌝ }
-{
-    let r = root::square_root(x);
-    match r {
-        root::Root::Is(v) => v,
-        root::Root::Missing => 0.0 / 0.0,
     }
 }
 
@@ -152,18 +143,6 @@ pub fn query_refusal(dims: u32, other: bool, v: Query, q: &[u8], form: bool) -> 
     0
 }
 
-// What a query is made into, once.
-pub fn ready(v: Query, q: &[u8]) -> Ready
-    requires { ⌜ Codes (now q) ⌝ }
-    ensures { λ r. ⌜ IsReady (now (q .entry)) r × (r .v ≡ v) ⌝ }
-{
-    Ready {
-        v: v,
-        root: root_of(v.dis_v_2),
-        total: sums::parts::query::total(q),
-    }
-}
-
 fn other_lengths(rec: usize, size: usize, out: usize, room: usize) -> bool
     ensures { λ r. ⌜ r ≡ (not (eqb rec size) || not (eqb out room)) ⌝ }
 {
@@ -173,7 +152,7 @@ fn other_lengths(rec: usize, size: usize, out: usize, room: usize) -> bool
     out != room
 }
 
-// The same of a call on one record: the lengths of the record and of the buffer that is written, beside those that they must have.
+// The same, of a call on one record: the lengths of the record and of the buffer that is written, beside those that they must have.
 pub fn record_refusal(
     metric: u32,
     dims: u32,
@@ -191,6 +170,43 @@ pub fn record_refusal(
     query_refusal(dims, other, v, q, bad_form(metric))
 }
 
+// ---- what is made of a query, once
+
+fn root_of(x: f32) -> f32
+    ensures { λ r. ⌜ r ≡ rootFloat x ⌝ }
+{
+    let r = root::square_root(x);
+    match r {
+        root::Root::Is(v) => v,
+        root::Root::Missing => 0.0 / 0.0,
+    }
+}
+
+pub fn ready(v: Query, q: &[u8]) -> Ready
+    requires { ⌜ QueryCodes (now q) ⌝ }
+    ensures { λ r. ⌜ IsReady (now (q .entry)) r × (r .v ≡ v) ⌝ }
+{
+    Ready {
+        v: v,
+        root: root_of(v.dis_v_2),
+        total: sums::parts::query::total(q),
+    }
+}
+
+// ---- a single code
+
+// Its estimate, from the query's planes.
+pub fn code_estimate(w: Asked, m: Metric, p: Ready, q: &[u8], planes: &[u64], code: &[u8]) -> f32
+    requires { ⌜ QueryCodes (now q) × IsReady (now q) p × Planes (now q) (now planes) × (length (now code) ≡ codeSize (length (now q))) ⌝ }
+    ensures { λ r. ⌜ r ≡ codeEstimate w m (p .v) (now (q .entry)) (now (code .entry)) ⌝ }
+{
+    let f = factors_of(code);
+    let s = asymmetric_binary_dot_product(q, planes, words_of(code));
+    estimate_of(w, m, p, f, s)
+}
+
+// ---- the lanes of a block
+
 fn lane_factors(block: &[u8], k: usize) -> Factors
     requires { ⌜ (k < 32) × (512 ≤ length (now block)) ⌝ }
     ensures { λ r. ⌜ r ≡ laneFactors (now (block .entry)) k ⌝ }
@@ -202,18 +218,6 @@ fn lane_factors(block: &[u8], k: usize) -> Factors
         factor_err: f32_at(block, 96 + k),
     }
 }
-
-// The estimate of a single code, from the query's planes.
-pub fn code_estimate(w: Asked, m: Metric, p: Ready, q: &[u8], planes: &[u64], code: &[u8]) -> f32
-    requires { ⌜ Codes (now q) × IsReady (now q) p × Planes (now q) (now planes) × (length (now code) ≡ codeSize (length (now q))) ⌝ }
-    ensures { λ r. ⌜ r ≡ codeEstimate w m (p .v) (now (q .entry)) (now (code .entry)) ⌝ }
-{
-    let f = factors_of(code);
-    let s = asymmetric_binary_dot_product(q, planes, words_of(code));
-    estimate_of(w, m, p, f, s)
-}
-
-// ---- the lanes of a block
 
 // The factors of a lane where no factor of the block is a NaN.
 fn lane_numbers(block: &[u8], k: usize) -> Factors
@@ -254,7 +258,8 @@ fn put_numbers(w: Asked, m: Metric, p: Ready, s: &[u32], block: &[u8], out: &mut
     }
 }
 
-// The estimates of the 32 lanes of a block, from the query's wide table, four bytes each. The Rust's `fscan_process_lowerbound`.
+// The estimates of the 32 lanes of a block, from the query's wide table, four bytes each. The Rust's
+// `fscan_process` and `fscan_process_lowerbound`.
 pub fn put_lanes(
     w: Asked,
     m: Metric,
@@ -264,7 +269,7 @@ pub fn put_lanes(
     block: &[u8],
     out: &mut [u8],
 )
-    requires { ⌜ IsReady (now q) p × held.Ready (now q) (now table) (now block) × (length (now out) ≡ 128) ⌝ }
+    requires { ⌜ IsReady (now q) p × BlockReady (now q) (now table) (now block) × (length (now out) ≡ 128) ⌝ }
     ensures { λ _. ⌜ now (out .exit) ≡ laneWords w m (p .v) (now (q .entry)) (now (block .entry)) ⌝ }
 {
     let s = lane_sums(q, table, block);

@@ -21,14 +21,14 @@ use Rattle.root.specs.declared.Root.{Root}
 use Rattle.root.specs.declared.Root.the-variants.{Is, Missing}
 use Rattle.root.specs.Calls as root
 use Rattle.code.specs.Code.{codeSize}
-use Rattle.code.specs.Calls as code
+use Rattle.code.specs.Calls as single
 use Rattle.block.specs.Block.{blockSize}
-use Rattle.block.specs.Calls as block
+use Rattle.block.specs.Calls as blocks
 use Rattle.sums.specs.Calls as sums
 use Rattle.estimate.specs.declared.Query.{Query}
 use Rattle.estimate.specs.Record.{codeEstimate}
-use Rattle.estimate.specs.Calls as estimate
-use Rattle.walk.specs.Walk as walk
+use Rattle.estimate.specs.Calls as estimates
+use Rattle.walk.specs.Walk as walks
 use Rattle.rerank.specs.Rerank.{State, asksFor, badMark, nextRefusal, supplyRefusal}
 use Rattle.rerank.specs.Rerank as rule
 use Rattle.rerank.specs.Calls as rerank
@@ -74,11 +74,11 @@ summed dims query other =
 
 queried : {numbers : List ℕ} (dims : ℕ) (other : Bool) (v : Query) (query : List ℕ) (form : Bool)
     → Listed numbers 1 → Listed numbers 3 → Listed numbers 4 → Listed numbers 5 → Listed numbers 0
-    → Listed numbers (estimate.queryNumber dims other v query form)
-unfolding estimate.queryNumber
+    → Listed numbers (estimates.queryNumber dims other v query form)
+unfolding estimates.queryNumber
 queried dims other v query form h1 h3 h4 h5 h0 =
     row (badDims mostDims dims) h1
-    (row (badLength query dims || other) h3 (row (estimate.missingQuery v) h4 (row (form || estimate.badQuery v query) h5 h0)))
+    (row (badLength query dims || other) h3 (row (estimates.missingQuery v) h4 (row (form || estimates.badQuery v query) h5 h0)))
 
 rooted : (r : Root) → Listed (0 ∷ 3 ∷ 4 ∷ []) (numberOf r)
 rooted (Is v) = at refl
@@ -126,30 +126,30 @@ module-2 = (
 
 modules-3-4-5 :
     ((x : Float) (out : List ℕ) → Meets (3 ∷ 4 ∷ []) out (root.rootAnswer x out))
-    × ((dims : ℕ) (factors vector out : List ℕ) → Meets (1 ∷ 3 ∷ 4 ∷ []) out (code.encodeAnswer dims factors vector out))
-    × ((dims : ℕ) (single : List ℕ) (index : ℕ) (out : List ℕ) → Meets (1 ∷ 3 ∷ 6 ∷ []) out (code.bitAnswer dims single index out))
-    × ((dims : ℕ) (codes out : List ℕ) → Meets (1 ∷ 3 ∷ []) out (block.packAnswer dims codes out))
-    × ((dims : ℕ) (whole : List ℕ) (lane : ℕ) (out : List ℕ) → Meets (1 ∷ 3 ∷ 6 ∷ []) out (block.laneAnswer dims whole lane out))
-unfolding root.rootAnswer root.rootNumber code.encodeAnswer code.encodeNumber code.bitAnswer code.bitNumber block.packAnswer
-    block.packNumber block.laneAnswer block.laneNumber
+    × ((dims : ℕ) (factors vector out : List ℕ) → Meets (1 ∷ 3 ∷ 4 ∷ []) out (single.encodeAnswer dims factors vector out))
+    × ((dims : ℕ) (code : List ℕ) (index : ℕ) (out : List ℕ) → Meets (1 ∷ 3 ∷ 6 ∷ []) out (single.bitAnswer dims code index out))
+    × ((dims : ℕ) (codes out : List ℕ) → Meets (1 ∷ 3 ∷ []) out (blocks.packAnswer dims codes out))
+    × ((dims : ℕ) (block : List ℕ) (lane : ℕ) (out : List ℕ) → Meets (1 ∷ 3 ∷ 6 ∷ []) out (blocks.laneAnswer dims block lane out))
+unfolding root.rootAnswer root.rootNumber single.encodeAnswer single.encodeNumber single.bitAnswer single.bitNumber blocks.packAnswer
+    blocks.packNumber blocks.laneAnswer blocks.laneNumber
 modules-3-4-5 = (
   λ x out. meets _ _ (row (badLength out 4) (at refl) (rooted (rootOf x))),
   λ dims factors vector out.
       meets _ _ (row (badDims mostDims dims) (at refl)
       (row (badLength factors 16 || badLength vector (4 * dims) || badLength out (codeSize dims)) (at refl) (row (missing dims vector) (at refl) (at refl)))),
-  λ dims single index out.
+  λ dims code index out.
       meets _ _ (row (badDims mostDims dims) (at refl)
-      (row (badLength single (codeSize dims) || badLength out 4) (at refl) (row (leb dims index) (at refl) (at refl)))),
+      (row (badLength code (codeSize dims) || badLength out 4) (at refl) (row (leb dims index) (at refl) (at refl)))),
   λ dims codes out.
       meets _ _ (row (badDims mostDims dims) (at refl) (row (badLength codes (32 * codeSize dims) || badLength out (blockSize dims)) (at refl) (at refl))),
-  λ dims whole lane out.
+  λ dims block lane out.
       meets _ _ (row (badDims mostDims dims) (at refl)
-      (row (badLength whole (blockSize dims) || badLength out (codeSize dims)) (at refl) (row (ltb 31 lane) (at refl) (at refl)))),
+      (row (badLength block (blockSize dims) || badLength out (codeSize dims)) (at refl) (row (ltb 31 lane) (at refl) (at refl)))),
 )
 
 pub demand-1 : Demand1
-unfolding sizeAnswer sums.querySumAnswer sums.codeSumAnswer sums.blockSumsAnswer estimate.codeAnswer estimate.codeNumber
-    estimate.blockAnswer estimate.recordNumber walk.walkAnswer walk.walkNumber walk.rangeNumber rerank.nextAnswer rerank.nextNumber
+unfolding sizeAnswer sums.querySumAnswer sums.codeSumAnswer sums.blockSumsAnswer estimates.codeAnswer estimates.codeNumber
+    estimates.blockAnswer estimates.recordNumber walks.walkAnswer walks.walkNumber walks.rangeNumber rerank.nextAnswer rerank.nextNumber
     rerank.supplyAnswer rerank.supplyNumber supplyRefusal
 demand-1 =
     record {
@@ -167,23 +167,23 @@ demand-1 =
       lk-block-pack = modules-3-4-5 .3;
       lk-block-lane = modules-3-4-5 .4;
       lk-query-sum = λ dims query out. meets _ _ (summed dims query (badLength out 4));
-      lk-code-sum = λ dims query single out. meets _ _ (summed dims query (badLength single (codeSize dims) || badLength out 4));
-      lk-block-sums = λ dims query whole out. meets _ _ (summed dims query (badLength whole (blockSize dims) || badLength out 128));
-      lk-code-estimate = λ asked metric dims v query single out.
+      lk-code-sum = λ dims query code out. meets _ _ (summed dims query (badLength code (codeSize dims) || badLength out 4));
+      lk-block-sums = λ dims query block out. meets _ _ (summed dims query (badLength block (blockSize dims) || badLength out 128));
+      lk-code-estimate = λ asked metric dims v query code out.
           meets _ _ (joint _ _
-          (queried dims (badLength single (codeSize dims) || badLength out 4) v query (badForm metric) (at refl) (at refl) (at refl) (at refl) (at refl))
-          (row (isNan (codeEstimate asked (metricOf metric) v query single)) (at refl) (at refl)));
-      lk-block-estimates = λ asked metric dims v query whole out.
+          (queried dims (badLength code (codeSize dims) || badLength out 4) v query (badForm metric) (at refl) (at refl) (at refl) (at refl) (at refl))
+          (row (isNan (codeEstimate asked (metricOf metric) v query code)) (at refl) (at refl)));
+      lk-block-estimates = λ asked metric dims v query block out.
           meets _ _
-          (queried dims (badLength whole (blockSize dims) || badLength out 128) v query (badForm metric) (at refl) (at refl) (at refl) (at refl) (at refl));
+          (queried dims (badLength block (blockSize dims) || badLength out 128) v query (badForm metric) (at refl) (at refl) (at refl) (at refl) (at refl));
       lk-walk = λ metric layout dims v query records n start end ids bounds marks count.
-          let number = walk.walkNumber metric layout dims v query records n start end ids bounds marks count in
+          let number = walks.walkNumber metric layout dims v query records n start end ids bounds marks count in
           record {
             listed = joint _ _
-                (queried dims (walk.badLengths layout dims n (length records) (walk.badLists (length ids) (length bounds) (length marks) (length count))) v query
+                (queried dims (walks.badLengths layout dims n (length records) (walks.badLists (length ids) (length bounds) (length marks) (length count))) v query
                 (badForm metric || badForm layout) (at refl) (at refl) (at refl) (at refl) (at refl))
-                (joint _ _ (row (walk.outOfRange n start end) (at refl) (row (ltb (length marks) (end - start)) (at refl) (at refl)))
-                (row (anyBelow (end - start) (λ j. isNan (walk.boundOf (walk.layoutOf layout) (metricOf metric) v query records (start + j)))) (at refl)
+                (joint _ _ (row (walks.outOfRange n start end) (at refl) (row (ltb (length marks) (end - start)) (at refl) (at refl)))
+                (row (anyBelow (end - start) (λ j. isNan (walks.boundOf (walks.layoutOf layout) (metricOf metric) v query records (start + j)))) (at refl)
                 (at refl)));
             kept = λ e. (after-refused number ids _ e, after-refused number bounds _ e, after-refused number marks _ e, after-refused number count _ e);
           };

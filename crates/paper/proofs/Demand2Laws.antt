@@ -13,9 +13,9 @@ use native.Mathlib.Nat.{le-refl, mul-le-mul}
 use native.Mathlib.Omega.{arith}
 use lib.ListN.{length, getD, take, drop, length-drop}
 use lib.Seq.{length-take-le, getD-drop}
-use Rattle.code.specs.Code.{codeSize}
-use Rattle.code.specs.Calls.{signClear}
-use Rattle.block.specs.Block.{codeAt, laneCode, packed}
+use Rattle.words.specs.Lists.{recordOf}
+use Rattle.code.specs.Code.{codeSize, signClear}
+use Rattle.block.specs.Block.{laneCode, packedBlock}
 use Rattle.paper.specs.Demand2.{Bytes, ZeroPads, Demand2}
 
 nothing : (i : ℕ) → getD {A = ℕ} [] i 0 < 256
@@ -31,16 +31,16 @@ bytes-drop : (n : ℕ) (s : List ℕ) → Bytes s → Bytes (drop n s)
 bytes-drop n s h i = rw (getD-drop n s i 0) (h (n + i))
 
 code-same : (dims : ℕ) (codes : List ℕ) (k : ℕ) → length codes ≡ 32 * codeSize dims → Bytes codes → k < 32
-    → ZeroPads dims (codeAt dims codes k) → laneCode dims (packed dims codes) k ≡ codeAt dims codes k
-unfolding codeAt
-code-same dims codes k size byte h pad = lane-of-packed dims codes k h ∙ code-cleared dims (codeAt dims codes k) long bytes pad
+    → ZeroPads dims (recordOf (codeSize dims) codes k) → laneCode dims (packedBlock dims codes) k ≡ recordOf (codeSize dims) codes k
+unfolding recordOf
+code-same dims codes k size byte h pad = lane-of-packed dims codes k h ∙ code-cleared dims (recordOf (codeSize dims) codes k) long bytes pad
   where
-    long : length (codeAt dims codes k) ≡ codeSize dims
+    long : length (recordOf (codeSize dims) codes k) ≡ codeSize dims
     long =
         length-take-le (codeSize dims) (drop (codeSize dims * k) codes)
         (omega (arith, length-drop (codeSize dims * k) codes, mul-le-mul (le-refl (codeSize dims)) h))
 
-    bytes : Bytes (codeAt dims codes k)
+    bytes : Bytes (recordOf (codeSize dims) codes k)
     bytes = bytes-take (codeSize dims) (drop (codeSize dims * k) codes) (bytes-drop (codeSize dims * k) codes byte)
 
 sign-lt : (vector : List ℕ) (d : ℕ) → signClear vector d < 2
@@ -52,12 +52,12 @@ demand-2 =
     record {
       digits = read-packed;
       entries = λ m w dims vector lo hi i j h k. table-back m w dims vector lo hi i j h k;
-      planes = λ query code q b. counted query code [] (q .few) (q .small) b .planes;
-      table = λ query code q b. counted query code [] (q .few) (q .small) b .table;
-      most = λ query code q b. counted query code [] (q .few) (q .small) b .small;
-      lanes = λ query whole k q. counted query [] whole (q .few) (q .small) nothing .lanes k;
-      lane-table = λ query whole k q. counted query [] whole (q .few) (q .small) nothing .lane-table k;
-      lane-most = λ query whole k q. counted query [] whole (q .few) (q .small) nothing .lane-small k;
+      planes = λ query code q b. counted query code [] q b .planes;
+      table = λ query code q b. counted query code [] q b .table;
+      most = λ query code q b. counted query code [] q b .small;
+      lanes = λ query whole k q. counted query [] whole q nothing .lanes k;
+      lane-table = λ query whole k q. counted query [] whole q nothing .lane-table k;
+      lane-most = λ query whole k q. counted query [] whole q nothing .lane-small k;
       word-bits = λ code w i h l. word-bit code h w i l;
       lane-back = lane-of-packed;
       block-back = packed-of-lanes;

@@ -10,8 +10,7 @@ use Rattle.words.specs.Lists.{anyBelow, joined, tabulate}
 use Rattle.words.specs.Refusals.{after, badLength}
 use Rattle.words.specs.Sums.{sumTo}
 use Rattle.digits.specs.Digits.{digitAt, packedByte, packed}
-use Rattle.scalar.specs.Code.{delOf, quotient, rounded, codeAt, codesOf, scalarCode}
-use Rattle.scalar.specs.Code as scalar
+use Rattle.scalar.specs.Code.{delOf, quotient, rounded, roundedCode, dimensionCode, codesOf, scalarCode}
 use Rattle.root.specs.Root.{rootOf}
 use Rattle.code.specs.Code.{codeWords, codeByte, codeOf, codeWord, codeBit, wordsBit}
 use Rattle.sums.specs.Sums.{plainSum, querySum, planeWord, planeOnes, planeCount}
@@ -23,7 +22,7 @@ use Rattle.paper.specs.Table.{Table}
 
 pub table : Table
 unfolding packed packedByte join sumTo joined tabulate numAt bit ones planeWord planeOnes planeCount plainSum querySum wordsBit codeWord codeBit
-    codeOf codeByte kept scalar.codeOf rounded quotient delOf codeAt codesOf scalarCode digitAt bytesOf wordsOf f32At div sub add neg sum round units
+    codeOf codeByte kept roundedCode rounded quotient delOf dimensionCode codesOf scalarCode digitAt bytesOf wordsOf f32At div sub add neg sum round units
     odd size span climb ofInt trailingZeros ofBits toBits ofFields rootOf lt isNan better least choose answerOf asksFor missing missingAt badMark
     nextRefusal supplyRefusal counted anyBelow after badLength floatBytes badLists answerBytes nextNumber nextAnswer supplyNumber supplyAnswer call
     told seen left numbers heard turn turns

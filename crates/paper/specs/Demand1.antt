@@ -10,13 +10,13 @@ use lib.Ieee.{Float}
 use Rattle.digits.specs.Calls as digits
 use Rattle.scalar.specs.Calls as scalar
 use Rattle.root.specs.Calls as root
-use Rattle.code.specs.Calls as code
-use Rattle.block.specs.Calls as block
+use Rattle.code.specs.Calls as single
+use Rattle.block.specs.Calls as blocks
 use Rattle.sums.specs.Calls as sums
 use Rattle.estimate.specs.declared.Asked.{Asked}
 use Rattle.estimate.specs.declared.Query.{Query}
-use Rattle.estimate.specs.Calls as estimate
-use Rattle.walk.specs.Walk as walk
+use Rattle.estimate.specs.Calls as estimates
+use Rattle.walk.specs.Walk as walks
 use Rattle.rerank.specs.Calls as rerank
 
 -- n is one of the numbers
@@ -48,8 +48,8 @@ pub record Meets4 (numbers old₁ old₂ old₃ old₄ : List ℕ) (answer : ℕ
 -- each call with the numbers that it can give. lk_code_rough and lk_code_lower_bound are the two cases of `asked`, and so are the block's
 pub record Demand1 : Type 0 where
   pub lk-digits-size : (dims bits : ℕ) (out : List ℕ) → Meets (1 ∷ 2 ∷ 3 ∷ []) out (digits.sizeAnswer dims bits out)
-  pub lk-code-size : (dims : ℕ) (out : List ℕ) → Meets (1 ∷ 3 ∷ []) out (code.sizeAnswer dims out)
-  pub lk-block-size : (dims : ℕ) (out : List ℕ) → Meets (1 ∷ 3 ∷ []) out (block.sizeAnswer dims out)
+  pub lk-code-size : (dims : ℕ) (out : List ℕ) → Meets (1 ∷ 3 ∷ []) out (single.sizeAnswer dims out)
+  pub lk-block-size : (dims : ℕ) (out : List ℕ) → Meets (1 ∷ 3 ∷ []) out (blocks.sizeAnswer dims out)
   pub lk-digits-pack : (dims bits : ℕ) (codes out : List ℕ) → Meets (1 ∷ 2 ∷ 3 ∷ 5 ∷ []) out (digits.packAnswer dims bits codes out)
   pub lk-digits-read : (dims bits : ℕ) (packed : List ℕ) (index : ℕ) (out : List ℕ)
       → Meets (1 ∷ 2 ∷ 3 ∷ 6 ∷ []) out (digits.readAnswer dims bits packed index out)
@@ -60,20 +60,20 @@ pub record Demand1 : Type 0 where
   pub lk-scalar-distance : (metric dims bits : ℕ) (table packed out : List ℕ)
       → Meets (1 ∷ 2 ∷ 3 ∷ 5 ∷ 8 ∷ []) out (scalar.distanceAnswer metric dims bits table packed out)
   pub lk-root : (x : Float) (out : List ℕ) → Meets (3 ∷ 4 ∷ []) out (root.rootAnswer x out)
-  pub lk-code-encode : (dims : ℕ) (factors vector out : List ℕ) → Meets (1 ∷ 3 ∷ 4 ∷ []) out (code.encodeAnswer dims factors vector out)
-  pub lk-code-bit : (dims : ℕ) (single : List ℕ) (index : ℕ) (out : List ℕ) → Meets (1 ∷ 3 ∷ 6 ∷ []) out (code.bitAnswer dims single index out)
-  pub lk-block-pack : (dims : ℕ) (codes out : List ℕ) → Meets (1 ∷ 3 ∷ []) out (block.packAnswer dims codes out)
-  pub lk-block-lane : (dims : ℕ) (whole : List ℕ) (lane : ℕ) (out : List ℕ) → Meets (1 ∷ 3 ∷ 6 ∷ []) out (block.laneAnswer dims whole lane out)
+  pub lk-code-encode : (dims : ℕ) (factors vector out : List ℕ) → Meets (1 ∷ 3 ∷ 4 ∷ []) out (single.encodeAnswer dims factors vector out)
+  pub lk-code-bit : (dims : ℕ) (code : List ℕ) (index : ℕ) (out : List ℕ) → Meets (1 ∷ 3 ∷ 6 ∷ []) out (single.bitAnswer dims code index out)
+  pub lk-block-pack : (dims : ℕ) (codes out : List ℕ) → Meets (1 ∷ 3 ∷ []) out (blocks.packAnswer dims codes out)
+  pub lk-block-lane : (dims : ℕ) (block : List ℕ) (lane : ℕ) (out : List ℕ) → Meets (1 ∷ 3 ∷ 6 ∷ []) out (blocks.laneAnswer dims block lane out)
   pub lk-query-sum : (dims : ℕ) (query out : List ℕ) → Meets (1 ∷ 3 ∷ 5 ∷ []) out (sums.querySumAnswer dims query out)
-  pub lk-code-sum : (dims : ℕ) (query single out : List ℕ) → Meets (1 ∷ 3 ∷ 5 ∷ []) out (sums.codeSumAnswer dims query single out)
-  pub lk-block-sums : (dims : ℕ) (query whole out : List ℕ) → Meets (1 ∷ 3 ∷ 5 ∷ []) out (sums.blockSumsAnswer dims query whole out)
-  pub lk-code-estimate : (asked : Asked) (metric dims : ℕ) (v : Query) (query single out : List ℕ)
-      → Meets (1 ∷ 3 ∷ 4 ∷ 5 ∷ 8 ∷ []) out (estimate.codeAnswer asked metric dims v query single out)
-  pub lk-block-estimates : (asked : Asked) (metric dims : ℕ) (v : Query) (query whole out : List ℕ)
-      → Meets (1 ∷ 3 ∷ 4 ∷ 5 ∷ []) out (estimate.blockAnswer asked metric dims v query whole out)
+  pub lk-code-sum : (dims : ℕ) (query code out : List ℕ) → Meets (1 ∷ 3 ∷ 5 ∷ []) out (sums.codeSumAnswer dims query code out)
+  pub lk-block-sums : (dims : ℕ) (query block out : List ℕ) → Meets (1 ∷ 3 ∷ 5 ∷ []) out (sums.blockSumsAnswer dims query block out)
+  pub lk-code-estimate : (asked : Asked) (metric dims : ℕ) (v : Query) (query code out : List ℕ)
+      → Meets (1 ∷ 3 ∷ 4 ∷ 5 ∷ 8 ∷ []) out (estimates.codeAnswer asked metric dims v query code out)
+  pub lk-block-estimates : (asked : Asked) (metric dims : ℕ) (v : Query) (query block out : List ℕ)
+      → Meets (1 ∷ 3 ∷ 4 ∷ 5 ∷ []) out (estimates.blockAnswer asked metric dims v query block out)
   pub lk-walk : (metric layout dims : ℕ) (v : Query) (query records : List ℕ) (n start end : ℕ) (ids bounds marks count : List ℕ)
       → Meets4 (1 ∷ 3 ∷ 4 ∷ 5 ∷ 6 ∷ 7 ∷ 8 ∷ []) ids bounds marks count
-      (walk.walkAnswer metric layout dims v query records n start end ids bounds marks count)
+      (walks.walkAnswer metric layout dims v query records n start end ids bounds marks count)
   pub lk-rerank-next : (estimates distances marks out : List ℕ)
       → Meets2 (3 ∷ 4 ∷ 5 ∷ []) marks out (rerank.nextAnswer estimates distances marks out)
   pub lk-rerank-supply : (estimates distances marks : List ℕ) (place : ℕ) (distance : Float) (out : List ℕ)

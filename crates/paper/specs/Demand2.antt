@@ -8,26 +8,18 @@ use lib.ListN.{length, getD, take, drop}
 use lib.Ieee.{isNan}
 use Rattle.words.specs.Bytes.{f32At}
 use Rattle.words.specs.Digits.{bit}
-use Rattle.words.specs.Limits.{mostDims, topCode}
-use Rattle.words.specs.Lists.{anyAbove}
+use Rattle.words.specs.Lists.{anyAbove, recordOf}
 use Rattle.words.specs.declared.Metric.{Metric}
 use Rattle.digits.specs.Digits.{isWidth, levels, top, digitAt, packed}
 use Rattle.scalar.specs.Table.{tableBytes, entryAt}
-use Rattle.code.specs.Code.{codeWords, codeSize, codeWord, codeBit, codeOf, clearedCode}
-use Rattle.code.specs.Calls.{signClear}
-use Rattle.block.specs.Block.{blockGroups, blockSize, laneNibble, laneBit, laneCode, codeAt, clearedBlock, lanesOf}
-use Rattle.block.specs.Block as block
-use Rattle.sums.specs.Sums.{plainSum, planeCount, wordsNibble, tableOf, tableCount, fastCount}
+use Rattle.code.specs.Code.{codeWords, codeSize, codeWord, codeBit, codeOf, clearedCode, signClear}
+use Rattle.block.specs.Block.{blockGroups, blockSize, laneNibble, laneBit, laneCode, packedBlock, clearedBlock, lanesOf}
+use Rattle.sums.specs.Sums.{QueryCodes, plainSum, planeCount, wordsNibble, tableOf, tableCount, fastCount}
 use Rattle.estimate.specs.declared.Asked.{Asked}
 use Rattle.estimate.specs.declared.Query.{Query}
 use Rattle.estimate.specs.Calls.{codeAnswer, blockAnswer}
 use Rattle.walk.specs.Walk.{blocksOf, walkAnswer}
 use Rattle.walk.specs.Packed.{packedBlocks}
-
--- query codes within the limits: at most 4,369 of them, each at most 15
-pub record IsQuery (query : List ℕ) : Type 0 where
-  pub few : length query ≤ mostDims
-  pub small : (d : ℕ) → getD query d 0 ≤ topCode
 
 -- a list of bytes
 abbrev pub Bytes : List ℕ → Type 0
@@ -48,25 +40,25 @@ pub record Demand2 : Type 0 where
   pub entries : (m : Metric) (w dims : ℕ) (vector lo hi : List ℕ) (i j : ℕ) → i < dims → j < levels w
       → f32At (tableBytes m w dims vector lo hi) (i * levels w + j) ≡ entryAt m w vector lo hi i j
   -- the bit-plane count and the nibble-table count of a single code are the plain sum, which is at most 65,535
-  pub planes : (query code : List ℕ) → IsQuery query → Bytes code → planeCount query (drop 16 code) ≡ plainSum query (codeBit code)
-  pub table : (query code : List ℕ) → IsQuery query → Bytes code
+  pub planes : (query code : List ℕ) → QueryCodes query → Bytes code → planeCount query (drop 16 code) ≡ plainSum query (codeBit code)
+  pub table : (query code : List ℕ) → QueryCodes query → Bytes code
       → tableCount (tableOf query) (wordsNibble (drop 16 code)) (blockGroups (length query)) ≡ plainSum query (codeBit code)
-  pub most : (query code : List ℕ) → IsQuery query → Bytes code → plainSum query (codeBit code) ≤ 65535
+  pub most : (query code : List ℕ) → QueryCodes query → Bytes code → plainSum query (codeBit code) ≤ 65535
   -- and so are the fast count and the nibble-table count of every lane of a block
-  pub lanes : (query whole : List ℕ) (k : ℕ) → IsQuery query → fastCount query (laneNibble whole k) ≡ plainSum query (laneBit whole k)
-  pub lane-table : (query whole : List ℕ) (k : ℕ) → IsQuery query
+  pub lanes : (query whole : List ℕ) (k : ℕ) → QueryCodes query → fastCount query (laneNibble whole k) ≡ plainSum query (laneBit whole k)
+  pub lane-table : (query whole : List ℕ) (k : ℕ) → QueryCodes query
       → tableCount (tableOf query) (laneNibble whole k) (blockGroups (length query)) ≡ plainSum query (laneBit whole k)
-  pub lane-most : (query whole : List ℕ) (k : ℕ) → IsQuery query → plainSum query (laneBit whole k) ≤ 65535
+  pub lane-most : (query whole : List ℕ) (k : ℕ) → QueryCodes query → plainSum query (laneBit whole k) ≤ 65535
   -- bit i of word w of a single code is dimension 64 w + i
   pub word-bits : (code : List ℕ) (w i : ℕ) → Bytes code → i < 64 → bit (codeWord code w) i ≡ codeBit code (64 * w + i)
   -- packing 32 codes and reading lane k back gives code k, pad bits zero; packing the lanes of a block gives the block, pad bits zero
-  pub lane-back : (dims : ℕ) (codes : List ℕ) (k : ℕ) → k < 32 → laneCode dims (block.packed dims codes) k ≡ clearedCode dims (codeAt dims codes k)
-  pub block-back : (dims : ℕ) (whole : List ℕ) → block.packed dims (lanesOf dims whole) ≡ clearedBlock dims whole
+  pub lane-back : (dims : ℕ) (codes : List ℕ) (k : ℕ) → k < 32 → laneCode dims (packedBlock dims codes) k ≡ clearedCode dims (recordOf (codeSize dims) codes k)
+  pub block-back : (dims : ℕ) (whole : List ℕ) → packedBlock dims (lanesOf dims whole) ≡ clearedBlock dims whole
   -- so a code whose pad bits are 0 comes back as it was, and so does a block
   pub code-again : (dims : ℕ) (codes : List ℕ) (k : ℕ) → length codes ≡ 32 * codeSize dims → Bytes codes → k < 32
-      → ZeroPads dims (codeAt dims codes k) → laneCode dims (block.packed dims codes) k ≡ codeAt dims codes k
+      → ZeroPads dims (recordOf (codeSize dims) codes k) → laneCode dims (packedBlock dims codes) k ≡ recordOf (codeSize dims) codes k
   pub block-again : (dims : ℕ) (whole : List ℕ) → length whole ≡ blockSize dims → Bytes whole → ZeroBlockPads dims whole
-      → block.packed dims (lanesOf dims whole) ≡ whole
+      → packedBlock dims (lanesOf dims whole) ≡ whole
   -- and every code that encode makes, from these factors and this vector, has pad bits 0
   pub encoded-pads : (dims : ℕ) (factors vector : List ℕ) → ZeroPads dims (codeOf dims (λ i. getD factors i 0) (signClear vector))
   -- a lane of a block gives the estimate of its single code: the same bits, or a NaN where the single call refuses with 8

@@ -19,7 +19,7 @@ use Rattle.words.proofs.RefusalLaws.{after-refused, sized, unsized, none-bad}
 use Rattle.rerank.specs.Rerank.{State, answerOf, asksFor, missing, badMark, nextRefusal, supplyRefusal, oneOrTwo, counted}
 use Rattle.rerank.specs.Calls.{stateOf, badLists, answerMarks, answerBytes, nextNumber, nextAnswer, supplyNumber, supplyAnswer}
 use Rattle.rerank.specs.Demand.{notWaiting}
-use Rattle.rerank.specs.Scan.{Accepting, Ruled, ScanTo}
+use Rattle.rerank.specs.Parts.{Accepting, Ruled, ScanTo}
 use Rattle.rerank.specs.declared.Answer.{Answer}
 use Rattle.rerank.specs.declared.Answer.the-variants.{Ask, Give, Done}
 use Rattle.rerank.specs.declared.Scan.{Scan}

@@ -15,7 +15,7 @@ use lib.Ieee.Bits.{nanBits-is}
 use Rattle.words.specs.Bytes.{numAt, f32At}
 use Rattle.rerank.specs.Rerank.{least, IsLeast, choose, answerOf}
 use Rattle.rerank.specs.Calls.{stateOf}
-use Rattle.rerank.specs.Scan.{keyOf, noKey, keyIf, keyAt, leastKey, FirstAt, Accepting}
+use Rattle.rerank.specs.Parts.{keyOf, noKey, keyIf, keyAt, leastKey, FirstAt, Accepting}
 use Rattle.rerank.specs.declared.Answer.the-variants.{Ask, Give, Done}
 use Rattle.rerank.specs.declared.Scan.{Scan}
 use Rattle.rerank.proofs.OrderLaws.{Num}

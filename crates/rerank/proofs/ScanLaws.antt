@@ -22,8 +22,8 @@ use Rattle.words.proofs.RefusalLaws.{neither, length-is}
 use Rattle.words.proofs.SumLaws.{sum-more, sum-le}
 use Rattle.rerank.specs.Rerank.{missingAt, missing, badMark, nextRefusal}
 use Rattle.rerank.specs.Calls.{stateOf, badLists}
-use Rattle.rerank.specs.Scan.{keyOf, noKey, keyIf, lesser, keyAt, leastKey, lacks, lackAt, aboveMost, notZero, KeysTo, CountsOf, WithBlock, ScanTo}
-use Rattle.rerank.specs.Scan.{FirstAt}
+use Rattle.rerank.specs.Parts.{keyOf, noKey, keyIf, lesser, keyAt, leastKey, lacks, lackAt, aboveMost, notZero, KeysTo, CountsOf, WithBlock, ScanTo}
+use Rattle.rerank.specs.Parts.{FirstAt}
 use Rattle.rerank.specs.declared.Keys.{Keys}
 use Rattle.rerank.specs.declared.Counts.{Counts}
 use Rattle.rerank.specs.declared.Scan.{Scan}

@@ -1,4 +1,4 @@
 pub mod Rerank
 pub mod Calls
 pub mod Demand
-pub mod Scan
+pub mod Parts

@@ -10,8 +10,8 @@ ghost use Rattle.words.specs.Bytes.{bytesOf, floatBytes};
 ghost use Rattle.words.specs.Limits.{mostPlaces};
 ghost use Rattle.rerank.specs.Rerank.{answerOf, asksFor};
 ghost use Rattle.rerank.specs.Calls.{stateOf, badLists, nextAnswer, supplyAnswer, answerBytes, answerMarks};
-ghost use Rattle.rerank.specs.Scan.{keyOf, noKey, keyIf, lesser, keyAt, nanOne, lacks, aboveMost, notZero, KeysTo, CountsOf, WithBlock, ScanTo, FirstAt};
-ghost use Rattle.rerank.specs.Scan.{Accepting, Ruled};
+ghost use Rattle.rerank.specs.Parts.{keyOf, keyIf, lesser, keyAt, nanOne, lacks, aboveMost, notZero, KeysTo, CountsOf, WithBlock, ScanTo, FirstAt};
+ghost use Rattle.rerank.specs.Parts.{Accepting, Ruled};
 
 // What the rule says to do next: ask for a place's distance, hand a place out, or nothing.
 pub enum Answer {

@@ -1,4 +1,4 @@
--- What the workers behind `square_root` promise each other.
+-- What the workers behind `square_root` promise each other. No public promise cites this file.
 use mathlib.Core.Path.{_≡_}
 use Prim.Native.Nat.{ℕ, _+_, _-_, _*_, _/_, _%_, _^_, _≤_, _<_}
 use mathlib.Core.Bool.{cond}

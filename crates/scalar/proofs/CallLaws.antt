@@ -14,7 +14,8 @@ use Rattle.digits.specs.Digits.{bitsOf, isWidth, packedSize}
 use Rattle.digits.proofs.CallLaws.{Judged}
 use Rattle.scalar.specs.Code.{scalarCode}
 use Rattle.scalar.specs.Table.{tableBytes, tableSize, sumOf, distanceOf}
-use Rattle.scalar.specs.Calls.{badVectors, anyMissing, Fine, vectorsNumber}
+use Rattle.scalar.specs.Parts.{Fine}
+use Rattle.scalar.specs.Calls.{badVectors, anyMissing, vectorsNumber}
 use Rattle.scalar.specs.Calls.{encodeNumber, encodeAnswer, tableNumber, tableAnswer, distanceNumber, distanceAnswer}
 use Rattle.scalar.proofs.ScalarLaws.{fine}
 

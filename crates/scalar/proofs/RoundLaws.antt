@@ -1,7 +1,6 @@
 -- Rounding by adding an even whole number from 2 ^ 23 on: there a float has no digit below its point, so the sum is rounded to a
 -- whole number, ties to even, and its bit pattern counts up with it. Assumes nothing.
-use Prim.Native.Nat.{ℕ, _+_, _-_, _*_, _/_, _%_, _^_, _≤_, _<_, min, zero-le}
-use Prim.Native.Nat.{compare, Ordering, Ordering·lt, Ordering·eq, Ordering·gt}
+use Prim.Native.Nat.{ℕ, _+_, _-_, _*_, _/_, _%_, _^_, _≤_, _<_, min, zero-le, compare, Ordering, Ordering·lt, Ordering·eq, Ordering·gt}
 use mathlib.Core.Bool.{Bool, true, false, not, cond}
 use mathlib.Core.Path.{_≡_, refl, sym, ap, _∙_, subst}
 use native.Mathlib.Nat.{le-refl, le-trans, le-of-eq, le-of-lt, lt-of-lt-of-le, lt-of-mul-lt-mul-right}
@@ -20,7 +19,7 @@ use lib.Ieee.Back.{round-whole}
 use lib.Ieee.Nearest.{closest, closest-mono, closest-same}
 use lib.Ieee.Scale.{grid, round-val, round-same}
 use Rattle.words.proofs.FloatLaws.{size-is, bits-of}
-use Rattle.scalar.specs.Code.{byRest, rounded, codeOf}
+use Rattle.scalar.specs.Code.{byRest, rounded, roundedCode}
 
 -- ---- the definition's rounding is that of lib.Ieee
 
@@ -211,16 +210,16 @@ module _ (w : Float) (c : ℕ) (from : 0x4B00_0000 ≤ c) (to : c ≤ 0x4B7F_FF0
         rounded-closest (m * up e) (down e) ∙ rw z (closest-same 0 (down e) 0 1 (down-pos e) (omega arith) (omega arith)) in
         from-zero ∙ sym (rw (k, min-eq-left {n = 0} {m = top} zero-le) refl)
 
-    pub code-pattern : (q : Float) → toBits binary32 (add binary32 (held t q) w) ≡ c + codeOf top q
-    unfolding codeOf lt ofBits
+    pub code-pattern : (q : Float) → toBits binary32 (add binary32 (held t q) w) ≡ c + roundedCode top q
+    unfolding roundedCode lt ofBits
     code-pattern nan = from-zero
     code-pattern (inf false) = from-infinity t h
     code-pattern (inf true) = from-zero
     code-pattern (fin false m e) = from-positive m e (ltb (0 * down e) (m * up e * 1)) refl
     code-pattern (fin true m e) = from-zero
 
-pub code-le : (top : ℕ) (q : Float) → codeOf top q ≤ top
-unfolding codeOf
+pub code-le : (top : ℕ) (q : Float) → roundedCode top q ≤ top
+unfolding roundedCode
 code-le top nan = zero-le
 code-le top (inf false) = le-refl top
 code-le top (inf true) = zero-le
@@ -241,7 +240,7 @@ unfolding ofInt
 float-of top l = round-whole binary32 false top (omega arith)
 
 module _ (top : ℕ) (q : Float) {c : ℕ} (l : top ≤ 255) (from : 0x4B00_0000 ≤ c) (to : c ≤ 0x4B7F_FF00) (even : c % 2 ≡ 0) where
-  code-bits : toBits binary32 (add binary32 (held (ofInt binary32 (pos top)) q) (ofBits binary32 c)) ≡ c + codeOf top q
+  code-bits : toBits binary32 (add binary32 (held (ofInt binary32 (pos top)) q) (ofBits binary32 c)) ≡ c + roundedCode top q
   code-bits = code-pattern (ofBits binary32 c) c from to even (whole-float c from (omega arith)) (ofInt binary32 (pos top)) top l (float-of top l) q
 
   pub sum-number : T (not (isNan (add binary32 (held (ofInt binary32 (pos top)) q) (ofBits binary32 c))))
@@ -250,5 +249,5 @@ module _ (top : ℕ) (q : Float) {c : ℕ} (l : top ≤ 255) (from : 0x4B00_0000
   pub sum-from : c ≤ toBits binary32 (add binary32 (held (ofInt binary32 (pos top)) q) (ofBits binary32 c))
   sum-from = omega (arith, code-bits)
 
-  pub sum-code : toBits binary32 (add binary32 (held (ofInt binary32 (pos top)) q) (ofBits binary32 c)) - c ≡ codeOf top q
+  pub sum-code : toBits binary32 (add binary32 (held (ofInt binary32 (pos top)) q) (ofBits binary32 c)) - c ≡ roundedCode top q
   sum-code = omega (arith, code-bits)

@@ -23,9 +23,10 @@ use Rattle.words.proofs.ListLaws.{length-tabulate, tabulate-at, joined-more, le
 use Rattle.words.proofs.RefusalLaws.{neither, length-is}
 use Rattle.digits.specs.Digits.{isWidth, levels, top, perByte, packedSize, packedByte, packed}
 use Rattle.digits.proofs.DigitLaws.{by-width, digit-from, full-byte, last-byte}
-use Rattle.scalar.specs.Code.{quotient, codeAt, codesOf, scalarCode}
+use Rattle.scalar.specs.Code.{quotient, dimensionCode, codesOf, scalarCode}
 use Rattle.scalar.specs.Table.{rowBytes, addedTo, termAt}
-use Rattle.scalar.specs.Calls.{badVectors, anyMissing, Fine}
+use Rattle.scalar.specs.Parts.{Fine}
+use Rattle.scalar.specs.Calls.{badVectors, anyMissing}
 use Rattle.scalar.proofs.RoundLaws.{code-le}
 
 -- ---- buffers that no test refuses
@@ -48,27 +49,27 @@ fine dims v lo hi h k =
 
 -- ---- codes
 
-pub code-small : (w t : ℕ) → t ≡ top w → (v lo hi : List ℕ) (i : ℕ) → codeAt t v lo hi i < 2 ^ w
-unfolding codeAt
+pub code-small : (w t : ℕ) → t ≡ top w → (v lo hi : List ℕ) (i : ℕ) → dimensionCode t v lo hi i < 2 ^ w
+unfolding dimensionCode
 code-small w t e v lo hi i = omega (arith, code-le t (quotient t (f32At v i) (f32At lo i) (f32At hi i)), pow-pos w)
 
 module _ (w dims : ℕ) (v lo hi : List ℕ) where
   pub count-codes : length (codesOf (top w) dims v lo hi) ≡ dims
   unfolding codesOf
-  count-codes = length-tabulate dims (codeAt (top w) v lo hi)
+  count-codes = length-tabulate dims (dimensionCode (top w) v lo hi)
 
   listed : (at n : ℕ) → at + n ≤ dims
-      → join w n (λ j. codeAt (top w) v lo hi (at + j)) ≡ join w n (λ j. getD (codesOf (top w) dims v lo hi) (at + j) 0)
+      → join w n (λ j. dimensionCode (top w) v lo hi (at + j)) ≡ join w n (λ j. getD (codesOf (top w) dims v lo hi) (at + j) 0)
   unfolding codesOf
-  listed at n h = join-ext w n _ _ (λ j l. sym (tabulate-at dims (codeAt (top w) v lo hi) (at + j) (omega arith)))
+  listed at n h = join-ext w n _ _ (λ j l. sym (tabulate-at dims (dimensionCode (top w) v lo hi) (at + j) (omega arith)))
 
   -- byte k of the code, whole and at the end
   pub whole-codes : (k at per t : ℕ) → at ≡ k * perByte w → per ≡ perByte w → t ≡ top w → at + per ≤ dims
-      → join w per (λ j. codeAt t v lo hi (at + j)) ≡ packedByte w (codesOf (top w) dims v lo hi) k
+      → join w per (λ j. dimensionCode t v lo hi (at + j)) ≡ packedByte w (codesOf (top w) dims v lo hi) k
   whole-codes k at per t e f g h = rw g (listed at per h ∙ full-byte w k at per (codesOf (top w) dims v lo hi) e f)
 
   pub last-codes : (k at n t : ℕ) → at ≡ k * perByte w → n ≤ perByte w → t ≡ top w → at + n ≡ dims
-      → join w n (λ j. codeAt t v lo hi (at + j)) ≡ packedByte w (codesOf (top w) dims v lo hi) k
+      → join w n (λ j. dimensionCode t v lo hi (at + j)) ≡ packedByte w (codesOf (top w) dims v lo hi) k
   last-codes k at n t e l g h = rw g (listed at n (omega arith) ∙ last-byte w k at n (codesOf (top w) dims v lo hi) e l (h ∙ sym count-codes))
 
   pub scalar-filled : (s : List ℕ) → length s ≡ packedSize w dims

@@ -2,8 +2,6 @@
 use Prim.Native.Nat.{ℕ, _*_}
 use mathlib.Core.Bool.{Bool, false, not, _||_, cond}
 use mathlib.Core.List.{List}
-use mathlib.Core.Path.{_≡_}
-use lib.ListN.{length}
 use lib.Ieee.{lt, isNan}
 use Rattle.words.specs.Bytes.{f32At, floatBytes}
 use Rattle.words.specs.Floats.{missing}
@@ -27,15 +25,6 @@ anyMissing dims vector lo hi = missing dims vector || missing dims lo || missing
 unfoldable pub aboveMax : ℕ → List ℕ → List ℕ → Bool
 unfolding anyBelow
 aboveMax dims lo hi = anyBelow dims (λ i. lt (f32At hi i) (f32At lo i))
-
--- what the workers are called with: buffers of the right lengths, and nothing missing in them
-pub record Fine (dims : ℕ) (vector lo hi : List ℕ) : Type 0 where
-  pub vector-long : length vector ≡ 4 * dims
-  pub lo-long : length lo ≡ 4 * dims
-  pub hi-long : length hi ≡ 4 * dims
-  pub vector-there : missing dims vector ≡ false
-  pub lo-there : missing dims lo ≡ false
-  pub hi-there : missing dims hi ≡ false
 
 -- BAD_LENGTH, MISSING, BAD_VALUE of a call over vectors: `other` is that the buffer that is written isn't of its length, `form` that
 -- the metric is none

@@ -1,3 +1,4 @@
 pub mod Code
 pub mod Table
+pub mod Parts
 pub mod Calls

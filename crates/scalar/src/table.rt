@@ -1,4 +1,4 @@
-// A query's table (`preprocess` of scalar.rs), within what the calls have tested. `fill_rows` is called with literals for
+// A query's table (`preprocess` of scalar.rs), within what the calls have tested. `fill_rows` is called with constants for
 // each width.
 ghost use mathlib.Core.Path.{_≡_};
 ghost use mathlib.Core.Bool.{true};
@@ -9,9 +9,31 @@ ghost use Rattle.words.specs.Limits.{mostScalarDims};
 ghost use Rattle.digits.specs.Digits as d;
 ghost use Rattle.digits.specs.Digits.{bitsOf, isWidth, levels};
 ghost use Rattle.scalar.specs.Table.{apart, entryOf, rowBytes, tableBytes, tableSize};
-ghost use Rattle.scalar.specs.Calls.{Fine};
+ghost use Rattle.scalar.specs.Parts.{Fine};
+use crate::code::TOP_1;
+use crate::code::TOP_2;
+use crate::code::TOP_4;
+use crate::code::TOP_8;
+use crate::code::del_of;
 use digits::Width;
 use words::Metric;
+
+// How many entries a dimension has, at each width, and how many bytes they take.
+const LEVELS_1: u16 = Width::LEVELS_1 as u16;
+
+const LEVELS_2: u16 = Width::LEVELS_2 as u16;
+
+const LEVELS_4: u16 = Width::LEVELS_4 as u16;
+
+const LEVELS_8: u16 = Width::LEVELS_8 as u16;
+
+const ROW_1: usize = 4 * (Width::LEVELS_1 as usize);
+
+const ROW_2: usize = 4 * (Width::LEVELS_2 as usize);
+
+const ROW_4: usize = 4 * (Width::LEVELS_4 as usize);
+
+const ROW_8: usize = 4 * (Width::LEVELS_8 as usize);
 
 // How many bytes a table takes.
 pub fn table_size(w: Width, dims: usize) -> usize
@@ -19,10 +41,10 @@ pub fn table_size(w: Width, dims: usize) -> usize
     ensures { λ r. ⌜ r ≡ tableSize (bitsOf w) dims ⌝ }
 {
     match w {
-        Width::One => dims * 8,
-        Width::Two => dims * 16,
-        Width::Four => dims * 64,
-        Width::Eight => dims * 1024,
+        Width::One => dims * ROW_1,
+        Width::Two => dims * ROW_2,
+        Width::Four => dims * ROW_4,
+        Width::Eight => dims * ROW_8,
     }
 }
 
@@ -72,7 +94,7 @@ fn fill_rows(
         let x = words::number_at(vector, i);
         let a = words::number_at(lo, i);
         let b = words::number_at(hi, i);
-        put_row(m, n, x, a, super::code::del_of(top, a, b), out, at);
+        put_row(m, n, x, a, del_of(top, a, b), out, at);
         at += 4 * (n as usize);
         i += 1;
     }
@@ -84,9 +106,9 @@ pub fn fill(m: Metric, w: Width, dims: usize, vector: &[u8], lo: &[u8], hi: &[u8
     ensures { λ r. ⌜ now (out .exit) ≡ tableBytes m (bitsOf w) dims (now (vector .entry)) (now (lo .entry)) (now (hi .entry)) ⌝ }
 {
     match w {
-        Width::One => fill_rows(m, 1, 2, 1, dims, vector, lo, hi, out),
-        Width::Two => fill_rows(m, 2, 4, 3, dims, vector, lo, hi, out),
-        Width::Four => fill_rows(m, 4, 16, 15, dims, vector, lo, hi, out),
-        Width::Eight => fill_rows(m, 8, 256, 255, dims, vector, lo, hi, out),
+        Width::One => fill_rows(m, 1, LEVELS_1, TOP_1, dims, vector, lo, hi, out),
+        Width::Two => fill_rows(m, 2, LEVELS_2, TOP_2, dims, vector, lo, hi, out),
+        Width::Four => fill_rows(m, 4, LEVELS_4, TOP_4, dims, vector, lo, hi, out),
+        Width::Eight => fill_rows(m, 8, LEVELS_8, TOP_8, dims, vector, lo, hi, out),
     }
 }

@@ -11,11 +11,11 @@ use Rattle.words.specs.Lists.{anyAbove}
 use Rattle.words.proofs.ListLaws.{none-above}
 use Rattle.words.specs.Refusals.{badDims, badLength}
 use Rattle.words.proofs.RefusalLaws.{no-row, neither, few-dims, sized, unsized, length-is}
-use Rattle.sums.specs.Held.{Query}
+use Rattle.sums.specs.Sums.{QueryCodes}
 use Rattle.sums.specs.Calls.{sumNumber}
 
 -- a judged query
-pub query : (qs : List ℕ) → length qs ≤ mostDims → anyAbove topCode qs ≡ false → Query qs
+pub query : (qs : List ℕ) → length qs ≤ mostDims → anyAbove topCode qs ≡ false → QueryCodes qs
 query qs l a = record { few = l; small = none-above topCode qs a }
 
 module _ (dims : ℕ) (qs : List ℕ) (other : Bool) where
@@ -47,7 +47,7 @@ module _ (dims : ℕ) (qs : List ℕ) (other : Bool) where
 
   -- what a call knows that none of them refuses
   pub record Accepted : Type 0 where
-    pub codes : Query qs
+    pub codes : QueryCodes qs
     pub size : length qs ≡ dims
     pub others : other ≡ false
 
@@ -72,7 +72,7 @@ module _ (dims size room : ℕ) (qs rec out : List ℕ) where
   judged r size′ other es eo e = e ∙ rw (eo, es) refl
 
   pub record Sized : Type 0 where
-    pub codes : Query qs
+    pub codes : QueryCodes qs
     pub query-is : length qs ≡ dims
     pub rec-is : length rec ≡ size
     pub out-is : length out ≡ room

@@ -17,8 +17,8 @@ use Rattle.words.proofs.DigitLaws.{bit-lt, lt-or-ge}
 use Rattle.words.proofs.SumLaws.{sum-ext, sum-le, sum-split, sum-blocks, sum-pad}
 use Rattle.block.specs.Block.{blockGroups, laneNibble, laneBit}
 use Rattle.block.proofs.LaneLaws.{lane-bit-lt}
-use Rattle.sums.specs.Sums.{plainSum, nibbleBit, groupSum, fastGroup, fastCount}
-use Rattle.sums.specs.Held.{Query, Wide, groupsSum, Each, Sixteen, Lanes, LaneSums}
+use Rattle.sums.specs.Sums.{plainSum, nibbleBit, groupSum, fastGroup, fastCount, QueryCodes}
+use Rattle.sums.specs.Parts.{Wide, groupsSum, Each, Sixteen, Lanes, LaneSums}
 use Rattle.sums.proofs.PlainLaws.{plain-ext, plain-le}
 
 -- ---- one group
@@ -52,7 +52,7 @@ pub group-four : (qs : List ℕ) (g m : ℕ)
 unfolding groupSum sumTo
 group-four qs g m = simp (add-zero, zero-add)
 
-pub group-le : (qs : List ℕ) → Query qs → (g m : ℕ) → groupSum qs g m ≤ 60
+pub group-le : (qs : List ℕ) → QueryCodes qs → (g m : ℕ) → groupSum qs g m ≤ 60
 unfolding groupSum
 group-le qs q g m = sum-le topCode 4 (λ b. getD qs (4 * g + b) 0 * bit m b) term
   where
@@ -62,7 +62,7 @@ group-le qs q g m = sum-le topCode 4 (λ b. getD qs (4 * g + b) 0 * bit m b) ter
         mul-le-mul (q .small (4 * g + b)) one
 
 -- the fast form of an entry
-fast-group : (qs : List ℕ) → Query qs → (g m : ℕ) → fastGroup qs g m ≡ groupSum qs g m
+fast-group : (qs : List ℕ) → QueryCodes qs → (g m : ℕ) → fastGroup qs g m ≡ groupSum qs g m
 unfolding fastGroup groupSum
 fast-group qs q g m =
     sum-ext 4 (λ b. min (bit m b * 2 ^ (4 + b)) (getD qs (4 * g + b) 0)) (λ b. getD qs (4 * g + b) 0 * bit m b)
@@ -73,7 +73,7 @@ fast-group qs q g m =
 
 -- the same from the wide table
 module _ (qs t : List ℕ) (wide : Wide qs t) where
-  pub wide-small : Query qs → (i : ℕ) → i < 64 * blockGroups (length qs) → getD t i 0 ≤ topCode
+  pub wide-small : QueryCodes qs → (i : ℕ) → i < 64 * blockGroups (length qs) → getD t i 0 ≤ topCode
   wide-small q i l = omega (arith, wide .each i l, q .small (i / 16))
 
   pub group-of : (g j m r : ℕ) → g < blockGroups (length qs) → j < 16
@@ -117,7 +117,7 @@ module _ (qs : List ℕ) (m : ℕ → ℕ) where
   unfolding groupsSum sumTo
   groups-none g = refl
 
-  pub groups-le : Query qs → (g n : ℕ) → groupsSum qs m g n ≤ 60 * n
+  pub groups-le : QueryCodes qs → (g n : ℕ) → groupsSum qs m g n ≤ 60 * n
   unfolding groupsSum
   groups-le q g n = sum-le 60 n (λ i. groupSum qs (g + i) (m (g + i))) (λ i. group-le qs q (g + i) (m (g + i)))
 
@@ -142,14 +142,14 @@ module _ (qs : List ℕ) (m : ℕ → ℕ) where
       low g b h = omega arith
 
   -- any number of them, since codes past the last dimension are 0
-  pub groups-most : Query qs → (n : ℕ) → groupsSum qs m 0 n ≤ mostSum
+  pub groups-most : QueryCodes qs → (n : ℕ) → groupsSum qs m 0 n ≤ mostSum
   unfolding nibbleBit
   groups-most q n =
       omega
       (arith, groups-more 0 n (length qs), groups-plain (n + length qs) (omega arith), plain-le qs (nibbleBit m) q (λ d. bit-lt (m (d / 4)) (d % 4)))
 
   -- the fast form
-  pub fast-plain : Query qs → fastCount qs m ≡ plainSum qs (nibbleBit m)
+  pub fast-plain : QueryCodes qs → fastCount qs m ≡ plainSum qs (nibbleBit m)
   unfolding fastCount groupsSum
   fast-plain q =
       sum-ext (blockGroups (length qs)) (λ g. fastGroup qs g (m g)) (λ g. groupSum qs (0 + g) (m (0 + g)))
@@ -170,7 +170,7 @@ module _ (qs block : List ℕ) (at g a n : ℕ) {acc part : List ℕ} (held : Si
   sixteen-add : (j : ℕ) → j < 16 → getD acc j 0 + getD part j 0 ≡ groupsSum qs (laneNibble block (j + at)) g (a + n)
   sixteen-add j l = groups-add qs (laneNibble block (j + at)) g a n (held .each j l) (more .each j l)
 
-  pub sixteen-fit : Query qs → a + n ≤ 1024 → (j : ℕ) → j < 16 → getD acc j 0 + getD part j 0 < 65536
+  pub sixteen-fit : QueryCodes qs → a + n ≤ 1024 → (j : ℕ) → j < 16 → getD acc j 0 + getD part j 0 < 65536
   sixteen-fit q h j l = omega (arith, sixteen-add j l, groups-le qs (laneNibble block (j + at)) q g (a + n))
 
   pub sixteen-more : (acc′ : List ℕ) → length acc′ ≡ 16 → ((j : ℕ) → j < 16 → getD acc′ j 0 ≡ getD acc j 0 + getD part j 0)
@@ -204,14 +204,14 @@ module _ (qs block : List ℕ) (g n : ℕ) {sums part : List ℕ} (held : Lanes 
       groups-add qs (laneNibble block k) 0 g n (held .each k l)
       (more .each k l ∙ ap (λ (x : ℕ). groupsSum qs (laneNibble block k) x n) (sym (zero-add g)))
 
-  pub lanes-fit : Query qs → (k : ℕ) → k < 32 → getD sums k 0 + getD part k 0 ≤ mostSum
+  pub lanes-fit : QueryCodes qs → (k : ℕ) → k < 32 → getD sums k 0 + getD part k 0 ≤ mostSum
   lanes-fit q k l = omega (arith, lanes-add k l, groups-most qs (laneNibble block k) q (g + n))
 
   pub lanes-more : {sums′ : List ℕ} → Each 32 (λ k. getD sums k 0 + getD part k 0) sums′ → Lanes qs block 0 (g + n) sums′
   lanes-more e = record { long = e .long; each = λ k l. e .each k l ∙ lanes-add k l }
 
 -- the lanes of all groups
-pub lanes-plain : (qs block : List ℕ) (n : ℕ) {sums : List ℕ} → Query qs → length qs ≤ 4 * n → Lanes qs block 0 n sums → LaneSums qs block sums
+pub lanes-plain : (qs block : List ℕ) (n : ℕ) {sums : List ℕ} → QueryCodes qs → length qs ≤ 4 * n → Lanes qs block 0 n sums → LaneSums qs block sums
 lanes-plain qs block n {sums} q l held = record {
   sums = record { long = held .long; each = plain };
   most = λ k h. omega (arith, plain k h, plain-le qs (laneBit block k) q (lane-bit-lt block k));

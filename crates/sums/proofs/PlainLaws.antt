@@ -8,15 +8,14 @@ use lib.ListN.{length, getD}
 use Rattle.words.specs.Limits.{topCode, mostSum}
 use Rattle.words.specs.Sums.{sumTo}
 use Rattle.words.proofs.SumLaws.{sum-ext, sum-le}
-use Rattle.sums.specs.Sums.{plainSum}
-use Rattle.sums.specs.Held.{Query}
+use Rattle.sums.specs.Sums.{plainSum, QueryCodes}
 
 pub plain-ext : (qs : List ℕ) (b b′ : ℕ → ℕ) → ((d : ℕ) → d < length qs → b d ≡ b′ d) → plainSum qs b ≡ plainSum qs b′
 unfolding plainSum
 plain-ext qs b b′ h =
     sum-ext (length qs) (λ d. getD qs d 0 * b d) (λ d. getD qs d 0 * b′ d) (λ d l. ap (λ (x : ℕ). getD qs d 0 * x) (h d l))
 
-pub plain-le : (qs : List ℕ) (b : ℕ → ℕ) → Query qs → ((d : ℕ) → b d < 2) → plainSum qs b ≤ mostSum
+pub plain-le : (qs : List ℕ) (b : ℕ → ℕ) → QueryCodes qs → ((d : ℕ) → b d < 2) → plainSum qs b ≤ mostSum
 unfolding plainSum
 plain-le qs b q two =
     let s : sumTo (length qs) (λ d. getD qs d 0 * b d) ≤ topCode * length qs = sum-le topCode (length qs) (λ d. getD qs d 0 * b d) term in

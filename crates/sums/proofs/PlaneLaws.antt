@@ -20,8 +20,8 @@ use Rattle.words.proofs.SumLaws.{sum-ext, sum-times, sum-four, sum-blocks, sum-
 use Rattle.words.proofs.DigitLaws.{bit-lt, bit-four, bits-lt, bit-join, ones-and, lt-or-ge}
 use Rattle.code.specs.Code.{codeWords, wordsBit}
 use Rattle.code.proofs.CodeLaws.{words-bit}
-use Rattle.sums.specs.Sums.{plainSum, planeWord, planeOnes, planeCount}
-use Rattle.sums.specs.Held.{Query, PlaneAt}
+use Rattle.sums.specs.Sums.{plainSum, planeWord, planeOnes, planeCount, QueryCodes}
+use Rattle.sums.specs.Parts.{PlaneAt}
 
 -- ---- a word of a plane
 
@@ -110,7 +110,7 @@ ones-plane qs p w a =
     two i = bit-lt (getD qs (64 * w + i) 0) p
 
 -- the four planes of one word: the plain sum over the word's 64 dimensions
-word-sum : (qs : List ℕ) → Query qs → (w a : ℕ)
+word-sum : (qs : List ℕ) → QueryCodes qs → (w a : ℕ)
     → ones (bitAnd a (planeWord qs 0 w)) + 2 * ones (bitAnd a (planeWord qs 1 w)) + 4 * ones (bitAnd a (planeWord qs 2 w))
     + 8 * ones (bitAnd a (planeWord qs 3 w))
     ≡ sumTo 64 (λ i. getD qs (64 * w + i) 0 * bit a i)
@@ -128,7 +128,7 @@ word-sum qs q w a =
     weigh c (suc zero) hc hb = simp mul-one (bit-four c (omega arith))
     weigh c (suc (suc b)) hc hb = absurd (not-suc-le-zero (le-of-suc-le-suc (le-of-suc-le-suc hb)))
 
-pub planes-plain : (qs words : List ℕ) → Query qs → ((k : ℕ) → getD words k 0 < 256) → planeCount qs words ≡ plainSum qs (wordsBit words)
+pub planes-plain : (qs words : List ℕ) → QueryCodes qs → ((k : ℕ) → getD words k 0 < 256) → planeCount qs words ≡ plainSum qs (wordsBit words)
 unfolding plainSum planeCount planeOnes
 planes-plain qs words q bytes =
     sum-four n (at 0) (at 1) (at 2) (at 3)
@@ -149,7 +149,7 @@ planes-plain qs words q bytes =
     at : ℕ → ℕ → ℕ
     at p w = ones (bitAnd (numAt 8 words (8 * w)) (planeWord qs p w))
 
-pub counts-plain : (qs words : List ℕ) → Query qs → ((k : ℕ) → getD words k 0 < 256) → {r₀ r₁ r₂ r₃ : ℕ}
+pub counts-plain : (qs words : List ℕ) → QueryCodes qs → ((k : ℕ) → getD words k 0 < 256) → {r₀ r₁ r₂ r₃ : ℕ}
     → r₀ ≡ planeOnes qs words 0 → r₁ ≡ planeOnes qs words 1 → r₂ ≡ planeOnes qs words 2 → r₃ ≡ planeOnes qs words 3
     → r₀ + 2 * r₁ + 4 * r₂ + 8 * r₃ ≡ plainSum qs (wordsBit words)
 unfolding planeCount

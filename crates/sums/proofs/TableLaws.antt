@@ -12,8 +12,8 @@ use Rattle.words.proofs.SumLaws.{sum-ext, sum-le, sum-none, sum-more}
 use Rattle.words.proofs.ListLaws.{length-tabulate, tabulate-at}
 use Rattle.block.specs.Block.{blockGroups, laneNibble, laneBit}
 use Rattle.block.proofs.LaneLaws.{lane-bit-lt}
-use Rattle.sums.specs.Sums.{plainSum, nibbleBit, groupsNibble, groupSum, tableOf, tableCount}
-use Rattle.sums.specs.Held.{Query, Table, groupsSum, Scanned, LaneSums}
+use Rattle.sums.specs.Sums.{plainSum, nibbleBit, groupsNibble, groupSum, tableOf, tableCount, QueryCodes}
+use Rattle.sums.specs.Parts.{Table, groupsSum, Scanned, LaneSums}
 use Rattle.sums.proofs.PlainLaws.{plain-ext, plain-le}
 use Rattle.sums.proofs.GroupLaws.{group-four, groups-plain}
 
@@ -92,7 +92,7 @@ table-of qs = record {
 }
 
 -- the lanes of a block
-pub scanned-plain : (qs t block : List ℕ) {s : List ℕ} → Query qs → Table qs t → Scanned t (drop 512 block) (blockGroups (length qs)) s → LaneSums qs block s
+pub scanned-plain : (qs t block : List ℕ) {s : List ℕ} → QueryCodes qs → Table qs t → Scanned t (drop 512 block) (blockGroups (length qs)) s → LaneSums qs block s
 unfolding nibbleBit laneBit
 scanned-plain qs t block {s} q table held = record {
   sums = record { long = held .long; each = plain };

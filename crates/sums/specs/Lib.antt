@@ -1,3 +1,3 @@
 pub mod Sums
-pub mod Held
+pub mod Parts
 pub mod Calls

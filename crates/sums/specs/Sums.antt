@@ -1,15 +1,21 @@
 -- The paper's module 6, the sums: the plain sum, and the three ways to count it.
-use Prim.Native.Nat.{ℕ, _+_, _*_, _/_, _%_, _^_, min}
+use Prim.Native.Nat.{ℕ, _+_, _*_, _/_, _%_, _^_, _≤_, min}
 use mathlib.Core.List.{List}
 use lib.ListN.{length, getD}
 use lib.Bits.{bitAnd}
 use lib.Count.{ones}
 use Rattle.words.specs.Bytes.{numAt}
 use Rattle.words.specs.Digits.{bit, join}
+use Rattle.words.specs.Limits.{mostDims, topCode}
 use Rattle.words.specs.Lists.{tabulate}
 use Rattle.words.specs.Sums.{sumTo}
 use Rattle.code.specs.Code.{codeWords}
 use Rattle.block.specs.Block.{blockGroups}
+
+-- query codes within the limits: at most 4,369 of them, each at most 15
+pub record QueryCodes (qs : List ℕ) : Type 0 where
+  pub few : length qs ≤ mostDims
+  pub small : (d : ℕ) → getD qs d 0 ≤ topCode
 
 -- the plain sum: the query codes qs at the dimensions whose bit b is set
 unfoldable pub plainSum : List ℕ → (ℕ → ℕ) → ℕ

@@ -16,7 +16,7 @@ use Rattle.words.specs.Refusals.{after, badLength, badForm}
 use Rattle.words.proofs.ListLaws.{any-none}
 use Rattle.words.proofs.RefusalLaws.{length-is, no-row, neither, after-refused, else-first, else-second}
 use Rattle.words.proofs.WordsLaws.{words-zero}
-use Rattle.sums.specs.Held as held
+use Rattle.sums.specs.Sums.{QueryCodes}
 use Rattle.estimate.specs.declared.Query.{Query}
 use Rattle.estimate.specs.Calls.{queryNumber}
 use Rattle.estimate.proofs.CallLaws.{accepted}
@@ -58,7 +58,7 @@ module _ (metric layout dims : ℕ) (v : Query) (qs rs : List ℕ) (n start end 
 
   -- what is known where there is none
   pub record Known : Type 0 where
-    pub codes : held.Query qs
+    pub codes : QueryCodes qs
     pub few : n ≤ mostRecords
     pub sized : length rs ≡ recordsSize (layoutOf layout) (length qs) n
     pub places : length marks ≤ mostPlaces

@@ -8,7 +8,7 @@ use native.Mathlib.Nat.{mul-le-mul, mul-comm, mul-assoc, mul-add}
 use lib.ListN.{length, take, drop, length-drop}
 use lib.Seq.{drop-drop, drop-append-le, take-append-le}
 use lib.Ieee.{isNan, toBits, binary32}
-use Rattle.words.specs.Lists.{anyBelow}
+use Rattle.words.specs.Lists.{anyBelow, recordOf}
 use Rattle.words.specs.Metrics.{metricOf}
 use Rattle.words.specs.Refusals.{badForm}
 use Rattle.words.specs.declared.Metric.{Metric}
@@ -16,7 +16,7 @@ use Rattle.words.proofs.ListLaws.{joined-at, length-joined, length-tabulate, an
 use borrow.Author.Tests.{eq-eqb}
 use Rattle.words.proofs.WordsLaws.{words-ext}
 use Rattle.code.specs.Code.{codeSize}
-use Rattle.block.specs.Block.{blockSize, codeAt, packed, blockOf}
+use Rattle.block.specs.Block.{blockSize, packedBlock}
 use Rattle.block.proofs.RoundLaws.{lane-of-packed}
 use Rattle.estimate.specs.declared.Asked.the-variants.{LowerBound}
 use Rattle.estimate.specs.declared.Query.{Query}
@@ -24,30 +24,30 @@ use Rattle.estimate.specs.Record.{codeEstimate, laneEstimate}
 use Rattle.estimate.proofs.CallLaws.{accepted}
 use Rattle.estimate.proofs.LaneLaws.{cleared-same, lane-is-code}
 use Rattle.walk.specs.declared.Layout.the-variants.{Single, Blocks}
-use Rattle.walk.specs.Walk.{layoutOf, recordOf, recordsSize, blocksOf, badRecords, badLengths, rangeNumber, boundOf, boundWords, walkAnswer}
+use Rattle.walk.specs.Walk.{layoutOf, recordsSize, blocksOf, badRecords, badLengths, rangeNumber, boundOf, boundWords, walkAnswer}
 use Rattle.walk.specs.Packed.{packedBlocks}
 use Rattle.walk.proofs.WalkLaws.{record-end, part-of-front}
 use Rattle.walk.proofs.AnswerLaws.{firstNumber, inside, someNan, first-number, range-number, nan-number, zero-number, walk-refused, walk-written}
 
 -- ---- records
 
-length-packed : (dims : ℕ) (codes : List ℕ) → length (packed dims codes) ≡ blockSize dims
-unfolding packed blockOf
+length-packed : (dims : ℕ) (codes : List ℕ) → length (packedBlock dims codes) ≡ blockSize dims
+unfolding packedBlock
 length-packed dims codes = length-tabulate (blockSize dims) _
 
 block-of : (dims : ℕ) (codes : List ℕ) (count b : ℕ) → b < count
-    → recordOf (blockSize dims) (packedBlocks dims codes count) b ≡ packed dims (recordOf (32 * codeSize dims) codes b)
+    → recordOf (blockSize dims) (packedBlocks dims codes count) b ≡ packedBlock dims (recordOf (32 * codeSize dims) codes b)
 unfolding recordOf packedBlocks
 block-of dims codes count b h =
-    joined-at (blockSize dims) count b (λ b. packed dims (recordOf (32 * codeSize dims) codes b)) (λ i l. length-packed dims _) h
+    joined-at (blockSize dims) count b (λ b. packedBlock dims (recordOf (32 * codeSize dims) codes b)) (λ i l. length-packed dims _) h
 
 length-blocks : (dims : ℕ) (codes : List ℕ) (count : ℕ) → length (packedBlocks dims codes count) ≡ count * blockSize dims
 unfolding packedBlocks
 length-blocks dims codes count = length-joined (blockSize dims) count _ (λ i l. length-packed dims _)
 
--- code k of the b-th 32 codes
-code-of : (dims : ℕ) (codes : List ℕ) (b k : ℕ) → k < 32 → codeAt dims (recordOf (32 * codeSize dims) codes b) k ≡ recordOf (codeSize dims) codes (32 * b + k)
-unfolding codeAt recordOf
+-- record k of the b-th 32 records
+code-of : (dims : ℕ) (codes : List ℕ) (b k : ℕ) → k < 32 → recordOf (codeSize dims) (recordOf (32 * codeSize dims) codes b) k ≡ recordOf (codeSize dims) codes (32 * b + k)
+unfolding recordOf
 code-of dims codes b k h =
     let s = codeSize dims in
     let some : s * (k + 1) ≤ s * 32 = mul-le-mul (omega arith) (omega arith) in
@@ -75,9 +75,9 @@ module _ (m : Metric) (v : Query) (qs codes fill : List ℕ) (n : ℕ) (e : leng
       let back : 32 * (i / 32) + i % 32 ≡ i = omega arith in
       let lane : i % 32 < 32 = omega arith in
       ap (λ (x : List ℕ). laneEstimate LowerBound m v qs x (i % 32)) (block-of d (codes ++ fill) (blocksOf n) (i / 32) (omega arith))
-      ∙ lane-is-code LowerBound m v qs (packed d thirty-two) (i % 32) lane
+      ∙ lane-is-code LowerBound m v qs (packedBlock d thirty-two) (i % 32) lane
       ∙ ap (codeEstimate LowerBound m v qs) (lane-of-packed d thirty-two (i % 32) lane)
-      ∙ cleared-same LowerBound m v qs (codeAt d thirty-two (i % 32))
+      ∙ cleared-same LowerBound m v qs (recordOf (codeSize d) thirty-two (i % 32))
       ∙ ap (codeEstimate LowerBound m v qs)
       (code-of d (codes ++ fill) (i / 32) (i % 32) lane ∙ ap (recordOf (codeSize d) (codes ++ fill)) back ∙ code-front (codeSize d) n i codes fill e h)
 

@@ -13,7 +13,7 @@ use lib.Ieee.{isNan, fits, toBits, binary32}
 use borrow.Author.Tests.{lt-ltb, ltb-false}
 use Rattle.words.specs.Bytes.{wordsOf, f32At}
 use Rattle.words.specs.Floats.{anyNan}
-use Rattle.words.specs.Lists.{anyBelow}
+use Rattle.words.specs.Lists.{anyBelow, recordOf}
 use Rattle.words.specs.declared.Metric.{Metric}
 use Rattle.words.proofs.ByteLaws.{take-sets}
 use Rattle.words.proofs.ListLaws.{any-ext}
@@ -25,7 +25,7 @@ use Rattle.estimate.specs.Record.{estimateOf, codeEstimate, laneEstimate}
 use Rattle.estimate.proofs.EstimateLaws.{estimate-fits}
 use Rattle.walk.specs.declared.Layout.{Layout}
 use Rattle.walk.specs.declared.Layout.the-variants.{Single, Blocks}
-use Rattle.walk.specs.Walk.{layoutNumber, layoutOf, recordOf, boundOf, boundWords, outOfRange}
+use Rattle.walk.specs.Walk.{layoutNumber, layoutOf, boundOf, boundWords, outOfRange}
 
 pub layout-back : (l : Layout) → layoutOf (layoutNumber l) ≡ l
 unfolding layoutOf

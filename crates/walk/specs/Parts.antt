@@ -1,4 +1,4 @@
--- What the parts of the walk ask of each other.
+-- What the parts of the walk ask of each other. No public promise cites this file.
 use mathlib.Core.Path.{_≡_}
 use Prim.Native.Nat.{ℕ, _+_, _*_, _/_, _≤_, _<_}
 use mathlib.Core.List.{List}

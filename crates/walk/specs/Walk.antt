@@ -2,12 +2,12 @@
 use Prim.Native.Nat.{ℕ, _+_, _-_, _*_, _/_, _%_}
 use mathlib.Core.Bool.{Bool, not, _&&_, _||_, cond}
 use mathlib.Core.List.{List, _++_}
-use lib.ListN.{length, take, drop, replicate}
+use lib.ListN.{length, drop, replicate}
 use lib.Dec.{ltb, eqb}
 use lib.Ieee.{Float, isNan, toBits, binary32}
 use Rattle.words.specs.Bytes.{bytesOf, wordsOf}
 use Rattle.words.specs.Limits.{mostRecords, mostPlaces}
-use Rattle.words.specs.Lists.{anyBelow}
+use Rattle.words.specs.Lists.{anyBelow, recordOf}
 use Rattle.words.specs.Metrics.{metricOf}
 use Rattle.words.specs.Refusals.{after, orElse, badForm}
 use Rattle.words.specs.declared.Metric.{Metric}
@@ -20,7 +20,7 @@ use Rattle.estimate.specs.Calls.{queryNumber}
 use Rattle.walk.specs.declared.Layout.{Layout}
 use Rattle.walk.specs.declared.Layout.the-variants.{Single, Blocks}
 
--- the paper's number of a layout, and the layout of a number that is one's
+-- the paper's number of a layout, and the layout of 1 or 2: the call refuses every other number first
 abbrev pub layoutNumber : Layout → ℕ
 layoutNumber Single = 1
 layoutNumber Blocks = 2
@@ -29,10 +29,6 @@ unfoldable pub layoutOf : ℕ → Layout
 layoutOf n = cond (eqb n 1) Single Blocks
 
 -- ---- records
-
--- record i of records of size bytes each
-unfoldable pub recordOf : ℕ → List ℕ → ℕ → List ℕ
-recordOf size rs i = take size (drop (size * i) rs)
 
 -- ceil(n / 32) blocks
 abbrev pub blocksOf : ℕ → ℕ

@@ -7,14 +7,16 @@ ghost use lib.Seq.{sets};
 ghost use lib.ListN.{length, take, drop, replicate};
 ghost use Rattle.words.specs.Bytes.{bytesOf, wordsOf};
 ghost use Rattle.words.specs.Limits.{mostDims, mostPlaces};
+ghost use Rattle.words.specs.Lists.{recordOf};
 ghost use Rattle.words.specs.Refusals.{badForm};
 ghost use Rattle.block.specs.Block.{blockGroups, blockSize};
-ghost use Rattle.sums.specs.Held as held;
-ghost use Rattle.sums.specs.Held.{Query as Codes};
+ghost use Rattle.sums.specs.Sums.{QueryCodes};
+ghost use Rattle.sums.specs.Parts.{BlockReady};
 ghost use Rattle.estimate.specs.Calls.{queryNumber};
-ghost use Rattle.estimate.specs.Record.{laneWords, IsReady};
+ghost use Rattle.estimate.specs.Parts.{IsReady};
+ghost use Rattle.estimate.specs.Record.{laneWords};
 ghost use Rattle.estimate.specs.declared.Asked.the-variants.{LowerBound};
-ghost use Rattle.walk.specs.Walk.{layoutOf, recordOf, badRecords, badLists, badLengths, outOfRange, rangeNumber, boundWords, walkAnswer};
+ghost use Rattle.walk.specs.Walk.{layoutOf, badRecords, badLists, badLengths, outOfRange, rangeNumber, boundWords, walkAnswer};
 ghost use Rattle.walk.specs.Parts.{Range, BlockRange, roomOf};
 use estimate::Asked;
 use estimate::Query;
@@ -98,7 +100,7 @@ fn fill_codes(
     c: usize,
     buf: &mut [u8],
 )
-    requires { ⌜ Codes (now q) × IsReady (now q) p × Range Layout.Single (now q) (now records) n start c × (4 * c ≤ length (now buf)) ⌝ }
+    requires { ⌜ QueryCodes (now q) × IsReady (now q) p × Range Layout.Single (now q) (now records) n start c × (4 * c ≤ length (now buf)) ⌝ }
     ensures { λ _. ⌜ take (4 * c) (now (buf .exit)) ≡ boundWords Layout.Single m (p .v) (now (q .entry)) (now (records .entry)) start c ⌝ }
 {
     let mut planes = [0u64; PLANES];
@@ -115,7 +117,7 @@ fn fill_codes(
 
 // The bounds of the 32 lanes of block b, as the b-th 128 bytes of buf.
 fn put_block(m: Metric, p: Ready, q: &[u8], table: &[u8], block: &[u8], buf: &mut [u8], b: usize)
-    requires { ⌜ IsReady (now q) p × held.Ready (now q) (now table) (now block) × (128 * b + 128 ≤ length (now buf)) ⌝ }
+    requires { ⌜ IsReady (now q) p × BlockReady (now q) (now table) (now block) × (128 * b + 128 ≤ length (now buf)) ⌝ }
     ensures { λ _. ⌜ now (buf .exit) ≡ sets (now (buf .entry)) (128 * b) (laneWords LowerBound m (p .v) (now (q .entry)) (now (block .entry))) ⌝ }
 {
     let at = 128 * b;
@@ -136,7 +138,7 @@ fn fill_by_table(
     count: usize,
     buf: &mut [u8],
 )
-    requires { ⌜ Codes (now q) × IsReady (now q) p × BlockRange (now q) (now records) blocks first count × (128 * count ≤ length (now buf)) ⌝ }
+    requires { ⌜ QueryCodes (now q) × IsReady (now q) p × BlockRange (now q) (now records) blocks first count × (128 * count ≤ length (now buf)) ⌝ }
     requires { ⌜ 64 * blockGroups (length (now q)) ≤ length (now table) ⌝ }
     ensures { λ _. ⌜ take (128 * count) (now (buf .exit))
         ≡ boundWords Layout.Blocks m (p .v) (now (q .entry)) (now (records .entry)) (32 * first) (32 * count) ⌝ }
@@ -162,7 +164,7 @@ fn fill_blocks(
     count: usize,
     buf: &mut [u8],
 )
-    requires { ⌜ Codes (now q) × IsReady (now q) p × BlockRange (now q) (now records) blocks first count × (128 * count ≤ length (now buf)) ⌝ }
+    requires { ⌜ QueryCodes (now q) × IsReady (now q) p × BlockRange (now q) (now records) blocks first count × (128 * count ≤ length (now buf)) ⌝ }
     ensures { λ _. ⌜ take (128 * count) (now (buf .exit))
         ≡ boundWords Layout.Blocks m (p .v) (now (q .entry)) (now (records .entry)) (32 * first) (32 * count) ⌝ }
 {
@@ -191,7 +193,7 @@ fn fill_bounds(
     c: usize,
     buf: &mut [u8],
 ) -> usize
-    requires { ⌜ Codes (now q) × Range layout (now q) (now records) n start c × (length (now buf) ≡ roomOf mostPlaces) ⌝ }
+    requires { ⌜ QueryCodes (now q) × Range layout (now q) (now records) n start c × (length (now buf) ≡ roomOf mostPlaces) ⌝ }
     ensures { λ r. ⌜ (take (4 * c) (drop (4 * r) (now (buf .exit))) ≡ boundWords layout m v (now (q .entry)) (now (records .entry)) start c) × (r < 32) ⌝ }
 {
     if c == 0 {

@@ -10,10 +10,10 @@ use native.Mathlib.Numerals.{add-one}
 use native.Mathlib.Nat.{eq-or-lt-of-le, not-suc-le-zero, add-zero, add-suc, mul-comm, mul-one}
 use lib.Dec.{ltb}
 use lib.ListN.{length, getD, set, take, drop, length-append, List·getD-append, List·getD-eq-default}
-use lib.Seq.{getD-append-add, getD-set-same, getD-set-other, ext-getD, take-at, drop-at}
+use lib.Seq.{getD-append-add, getD-set-same, getD-set-other, getD-take, getD-drop, ext-getD, take-at, drop-at}
 use borrow.Author.Count.{below-more}
 use borrow.Author.Tests.{lt-ltb, le-ltb, ltb-true, ltb-false}
-use Rattle.words.specs.Lists.{anyBelow, anyAbove, joined, tabulate}
+use Rattle.words.specs.Lists.{anyBelow, anyAbove, joined, tabulate, recordOf}
 use Rattle.words.proofs.RefusalLaws.{neither}
 
 -- ---- some place below n
@@ -118,6 +118,11 @@ pub joined-at : (m n k : ℕ) (f : ℕ → List ℕ) → ((i : ℕ) → i < n �
 unfolding joined
 joined-at m n k f size h =
     ap (λ (x : ℕ). take x (drop (m * k) (joined n f))) (sym (mul-one m)) ∙ joined-part m n k 1 f size (omega arith) ∙ ap f (add-zero k)
+
+-- byte i of record k
+pub record-byte : (size : ℕ) (records : List ℕ) (k i : ℕ) → i < size → getD (recordOf size records k) i 0 ≡ getD records (size * k + i) 0
+unfolding recordOf
+record-byte size records k i l = getD-take size (drop (size * k) records) i 0 l ∙ getD-drop (size * k) records i 0
 
 pub length-tabulate : (n : ℕ) (f : ℕ → ℕ) → length (tabulate n f) ≡ n
 unfolding tabulate

@@ -1,9 +1,9 @@
 -- Lists by what stands at each place.
-use Prim.Native.Nat.{ℕ, zero, suc}
+use Prim.Native.Nat.{ℕ, zero, suc, _*_}
 use mathlib.Core.Bool.{Bool, false, _||_}
 use mathlib.Core.List.{List, [], _∷_, _++_}
 use lib.Dec.{ltb}
-use lib.ListN.{length, getD}
+use lib.ListN.{length, getD, take, drop}
 
 -- p holds at some place below n
 unfoldable pub anyBelow : ℕ → (ℕ → Bool) → Bool
@@ -23,3 +23,7 @@ joined (suc n) f = joined n f ++ f n
 unfoldable pub tabulate : ℕ → (ℕ → ℕ) → List ℕ
 unfolding joined
 tabulate n f = joined n (λ i. f i ∷ [])
+
+-- record i of records of size bytes each, laid end to end
+unfoldable pub recordOf : ℕ → List ℕ → ℕ → List ℕ
+recordOf size records i = take size (drop (size * i) records)

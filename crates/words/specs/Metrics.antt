@@ -5,6 +5,6 @@ use lib.Dec.{eqb}
 use Rattle.words.specs.declared.Metric.{Metric}
 use Rattle.words.specs.declared.Metric.the-variants.{L2, Dot}
 
--- the metric of a number that is one's
+-- the metric of 1 or 2: a call refuses every other number first
 unfoldable pub metricOf : ℕ → Metric
 metricOf n = cond (eqb n 1) L2 Dot

@@ -57,7 +57,7 @@ pub enum Metric {
     Dot,
 }
 
-// The metric of a number that is one's.
+// The metric of 1 or 2. Every other number is refused first.
 pub fn metric_of(n: u32) -> Metric
     ensures { λ r. ⌜ r ≡ metricOf n ⌝ }
 {

@@ -5,7 +5,7 @@ use Rattle.words.specs.Lists.{anyAbove}
 use Rattle.words.specs.Refusals.{badLength}
 use Rattle.words.proofs.RefusalLaws.{sized, unsized, first-bad, second-bad, none-bad}
 use Rattle.digits.specs.Digits.{bitsOf, top, packedSize}
-use Rattle.digits.proofs.CallLaws.{Judged, judge, size-of, pack-dims, pack-width, pack-length, pack-value, pack-accepted}
+use Rattle.digits.proofs.CallLaws.{Judged, judge, size-of, pack-dims, pack-width, pack-length, pack-value, pack-accepted, bad-width}
 use borrow.Author.Needs.{needs}
 use Rattle.digits.proofs.digits_pack.Statement.{statement}
 use Rattle.digits.proofs.digits_pack.Tie as tie
@@ -47,7 +47,7 @@ enum-told c = search needs
 returns-2 : tie.Need-returns-2
 returns-2 c =
     let e = c .before .before .before in
-    pack-width _ _ _ _ (sym (e .before .bad-dims .ensures) ∙ e .if1 .left) (rw (c .enum-told .given .1) at (c .before .before .of-bits .ensures))
+    pack-width _ _ _ _ (sym (e .before .bad-dims .ensures) ∙ e .if1 .left) (bad-width (c .before .before .of-bits .ensures) (c .enum-told .given .1))
 
 returns-3 : tie.Need-returns-3
 returns-3 c = pack-length _ _ _ _ (judged (c .before)) (first-bad _ _ (unsized _ _ (c .if2 .taken)))

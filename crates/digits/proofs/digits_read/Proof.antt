@@ -7,7 +7,7 @@ use Rattle.words.specs.Refusals.{badLength}
 use Rattle.words.proofs.RefusalLaws.{sized, unsized, first-bad, second-bad, none-bad}
 use Rattle.digits.specs.Digits.{bitsOf, packedSize}
 use Rattle.digits.proofs.DigitLaws.{within, is-width}
-use Rattle.digits.proofs.CallLaws.{Judged, judge, size-of, read-dims, read-width, read-length, read-range, read-accepted}
+use Rattle.digits.proofs.CallLaws.{Judged, judge, size-of, read-dims, read-width, read-length, read-range, read-accepted, bad-width}
 use borrow.Author.Needs.{needs}
 use Rattle.digits.proofs.digits_read.Statement.{statement}
 use Rattle.digits.proofs.digits_read.Tie as tie
@@ -45,7 +45,7 @@ enum-told c = search needs
 returns-2 : tie.Need-returns-2
 returns-2 c =
     let e = c .before .before .before in
-    read-width _ _ _ _ _ (sym (e .before .bad-dims .ensures) ∙ e .if1 .left) (rw (c .enum-told .given .1) at (c .before .before .of-bits .ensures))
+    read-width _ _ _ _ _ (sym (e .before .bad-dims .ensures) ∙ e .if1 .left) (bad-width (c .before .before .of-bits .ensures) (c .enum-told .given .1))
 
 packed-size-requires : tie.Need-packed-size-requires
 packed-size-requires c κs = judged c .few

@@ -1,6 +1,6 @@
 -- `digits::digits_size` meets its contract. Assumes nothing.
 use mathlib.Core.Path.{sym, _∙_}
-use Rattle.digits.proofs.CallLaws.{Judged, judge, size-of, size-dims, size-width, size-judged}
+use Rattle.digits.proofs.CallLaws.{Judged, judge, size-of, size-dims, size-width, size-judged, bad-width}
 use borrow.Author.Needs.{needs}
 use Rattle.digits.proofs.digits_size.Statement.{statement}
 use Rattle.digits.proofs.digits_size.Tie as tie
@@ -31,7 +31,7 @@ enum-told c = search needs
 returns-2 : tie.Need-returns-2
 returns-2 c =
     let e = c .before .before .before in
-    size-width _ _ _ (sym (e .before .bad-dims .ensures) ∙ e .if1 .left) (rw (c .enum-told .given .1) at (c .before .before .of-bits .ensures))
+    size-width _ _ _ (sym (e .before .bad-dims .ensures) ∙ e .if1 .left) (bad-width (c .before .before .of-bits .ensures) (c .enum-told .given .1))
 
 packed-size-requires : tie.Need-packed-size-requires
 packed-size-requires c κs = judged (c .before) .few

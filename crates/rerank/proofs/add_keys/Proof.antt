@@ -3,7 +3,7 @@ use mathlib.Core.Path.{_≡_, refl}
 use Prim.Native.Nat.{_≤_, _-_}
 use native.Mathlib.Omega.{arith}
 use lib.ListN.{length}
-use Rattle.rerank.specs.Scan.{KeysTo}
+use Rattle.rerank.specs.Parts.{KeysTo}
 use Rattle.rerank.proofs.ScanLaws.{sized-of, keys-few, keys-more}
 use borrow.Author.Needs.{needs}
 use Rattle.rerank.proofs.add_keys.Statement.{statement}

@@ -2,7 +2,7 @@
 use mathlib.Core.Path.{_≡_}
 use Prim.Native.Nat.{_≤_, _-_}
 use native.Mathlib.Omega.{arith}
-use Rattle.rerank.specs.Scan.{CountsOf}
+use Rattle.rerank.specs.Parts.{CountsOf}
 use Rattle.rerank.proofs.ScanLaws.{counts-first, counts-more}
 use borrow.Author.Needs.{needs}
 use Rattle.rerank.proofs.count_marks.Statement.{statement}

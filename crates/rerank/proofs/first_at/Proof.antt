@@ -3,7 +3,7 @@ use mathlib.Core.Path.{_≡_, refl}
 use Prim.Native.Nat.{ℕ, _≤_, _<_, _-_}
 use native.Mathlib.Omega.{arith}
 use lib.ListN.{length}
-use Rattle.rerank.specs.Scan.{keyAt}
+use Rattle.rerank.specs.Parts.{keyAt}
 use Rattle.rerank.proofs.ScanLaws.{key-at, first-none, first-more, first-found, first-nowhere}
 use borrow.Author.Needs.{needs}
 use Rattle.rerank.proofs.first_at.Statement.{statement}

@@ -1,7 +1,7 @@
 -- `rerank::one_more` meets its contract. Assumes nothing.
 use mathlib.Core.Path.{ap, _∙_}
 use native.Mathlib.Omega.{arith}
-use Rattle.rerank.specs.Scan.{lesser, lacks}
+use Rattle.rerank.specs.Parts.{lesser, lacks}
 use borrow.Author.Needs.{needs}
 use Rattle.rerank.proofs.one_more.Statement.{statement}
 use Rattle.rerank.proofs.one_more.Tie as tie

@@ -3,7 +3,7 @@ use mathlib.Core.Path.{_≡_, refl}
 use Prim.Native.Nat.{_≤_, _-_}
 use native.Mathlib.Omega.{arith}
 use lib.ListN.{length}
-use Rattle.rerank.specs.Scan.{ScanTo}
+use Rattle.rerank.specs.Parts.{ScanTo}
 use Rattle.rerank.proofs.ScanLaws.{sized-of, scan-none, scan-few, scan-more}
 use borrow.Author.Needs.{needs}
 use Rattle.rerank.proofs.scan_lists.Statement.{statement}

@@ -6,7 +6,7 @@ use Rattle.words.specs.Refusals.{badLength, badForm}
 use Rattle.words.proofs.RefusalLaws.{sized, unsized, first-bad, second-bad, none-bad}
 use Rattle.words.proofs.FloatLaws.{nan-tells, number-tells}
 use Rattle.digits.specs.Digits.{packedSize}
-use Rattle.digits.proofs.CallLaws.{Judged, judge}
+use Rattle.digits.proofs.CallLaws.{Judged, judge, bad-width}
 use Rattle.scalar.specs.Table.{tableSize, sumOf}
 use Rattle.scalar.proofs.CallLaws.{distance-dims, distance-width, distance-length, distance-metric, distance-nan, distance-accepted}
 use borrow.Author.Needs.{needs}
@@ -68,7 +68,7 @@ enum-told c = search needs
 returns-2 : tie.Need-returns-2
 returns-2 c =
     let e = c .before .before .before in
-    distance-width _ _ _ _ _ _ (sym (e .before .bad-dims .ensures) ∙ e .if1 .left) (rw (c .enum-told .given .1) at (c .before .before .of-bits .ensures))
+    distance-width _ _ _ _ _ _ (sym (e .before .bad-dims .ensures) ∙ e .if1 .left) (bad-width (c .before .before .of-bits .ensures) (c .enum-told .given .1))
 
 table-size-requires : tie.Need-table-size-requires
 table-size-requires c κs = judged c .few

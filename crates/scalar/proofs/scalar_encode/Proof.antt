@@ -4,7 +4,7 @@ use mathlib.Core.Path.{_≡_, refl, sym, _∙_}
 use Rattle.words.specs.Refusals.{badLength}
 use Rattle.words.proofs.RefusalLaws.{length-is}
 use Rattle.digits.specs.Digits.{bitsOf, packedSize}
-use Rattle.digits.proofs.CallLaws.{Judged, judge}
+use Rattle.digits.proofs.CallLaws.{Judged, judge, bad-width}
 use Rattle.scalar.specs.Calls.{vectorsNumber}
 use Rattle.scalar.proofs.CallLaws.{accepted, encode-dims, encode-width, encode-refused, encode-accepted}
 use borrow.Author.Needs.{needs}
@@ -44,7 +44,7 @@ enum-told c = search needs
 returns-2 : tie.Need-returns-2
 returns-2 c =
     let e = c .before .before .before in
-    encode-width _ _ _ _ _ _ (sym (e .before .bad-dims .ensures) ∙ e .if1 .left) (rw (c .enum-told .given .1) at (c .before .before .of-bits .ensures))
+    encode-width _ _ _ _ _ _ (sym (e .before .bad-dims .ensures) ∙ e .if1 .left) (bad-width (c .before .before .of-bits .ensures) (c .enum-told .given .1))
 
 packed-size-requires : tie.Need-packed-size-requires
 packed-size-requires c κs = judged c .few

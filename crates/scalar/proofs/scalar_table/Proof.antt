@@ -3,7 +3,7 @@ use mathlib.Core.Path.{_≡_, refl, sym, _∙_}
 use Rattle.words.specs.Refusals.{badLength, badForm}
 use Rattle.words.proofs.RefusalLaws.{length-is}
 use Rattle.digits.specs.Digits.{bitsOf}
-use Rattle.digits.proofs.CallLaws.{Judged, judge}
+use Rattle.digits.proofs.CallLaws.{Judged, judge, bad-width}
 use Rattle.scalar.specs.Table.{tableSize}
 use Rattle.scalar.specs.Calls.{vectorsNumber}
 use Rattle.scalar.proofs.CallLaws.{accepted, table-dims, table-width, table-refused, table-accepted}
@@ -45,7 +45,7 @@ enum-told c = search needs
 returns-2 : tie.Need-returns-2
 returns-2 c =
     let e = c .before .before .before in
-    table-width _ _ _ _ _ _ _ (sym (e .before .bad-dims .ensures) ∙ e .if1 .left) (rw (c .enum-told .given .1) at (c .before .before .of-bits .ensures))
+    table-width _ _ _ _ _ _ _ (sym (e .before .bad-dims .ensures) ∙ e .if1 .left) (bad-width (c .before .before .of-bits .ensures) (c .enum-told .given .1))
 
 table-size-requires : tie.Need-table-size-requires
 table-size-requires c κs = judged c .few

@@ -7,8 +7,8 @@ ghost use Rattle.words.specs.Bytes.{wordsOf};
 ghost use Rattle.words.specs.Digits.{bit};
 ghost use Rattle.words.specs.Limits.{mostDims, topCode, mostSum};
 ghost use Rattle.block.specs.Block.{laneNibble, blockGroups, blockSize};
-ghost use Rattle.sums.specs.Sums.{groupSum};
-ghost use Rattle.sums.specs.Held.{Query, Wide, Ready, Each, Sixteen, Lanes, LaneSums};
+ghost use Rattle.sums.specs.Sums.{groupSum, QueryCodes};
+ghost use Rattle.sums.specs.Parts.{Wide, BlockReady, Each, Sixteen, Lanes, LaneSums};
 use crate::parts::FEW_DIMS;
 use crate::parts::FEW_WIDE;
 use crate::parts::MIDDLING_DIMS;
@@ -45,7 +45,7 @@ fn four(c: u8, q0: u8, q1: u8, q2: u8, q3: u8) -> u8
 
 // What the lanes j and j + 16 pick in group g.
 fn group(q: &[u8], t: &[u8], block: &[u8], g: usize, j: usize) -> Two
-    requires { ⌜ (j < 16) × (g < blockGroups (length (now q))) × Ready (now q) (now t) (now block) ⌝ }
+    requires { ⌜ (j < 16) × (g < blockGroups (length (now q))) × BlockReady (now q) (now t) (now block) ⌝ }
     ensures { λ r. ⌜ (r .lo ≡ groupSum (now (q .entry)) g (laneNibble (now (block .entry)) j g)) × (r .lo ≤ 60) ⌝ }
     ensures { λ r. ⌜ (r .hi ≡ groupSum (now (q .entry)) g (laneNibble (now (block .entry)) (j + 16) g)) × (r .hi ≤ 60) ⌝ }
 {
@@ -62,7 +62,7 @@ fn group(q: &[u8], t: &[u8], block: &[u8], g: usize, j: usize) -> Two
 
 // What the lanes pick in the four groups from g on, as bytes: at most 240 each.
 fn four_groups(q: &[u8], t: &[u8], block: &[u8], g: usize, lo: &mut [u8], hi: &mut [u8])
-    requires { ⌜ (g + 4 ≤ blockGroups (length (now q))) × Ready (now q) (now t) (now block) × (length (now lo) ≡ 16) × (length (now hi) ≡ 16) ⌝ }
+    requires { ⌜ (g + 4 ≤ blockGroups (length (now q))) × BlockReady (now q) (now t) (now block) × (length (now lo) ≡ 16) × (length (now hi) ≡ 16) ⌝ }
     ensures { λ _. ⌜ Sixteen (now (q .entry)) (now (block .entry)) 0 g 4 (now (lo .exit)) ⌝ }
     ensures { λ _. ⌜ Sixteen (now (q .entry)) (now (block .entry)) 16 g 4 (now (hi .exit)) ⌝ }
 {
@@ -80,7 +80,7 @@ fn four_groups(q: &[u8], t: &[u8], block: &[u8], g: usize, lo: &mut [u8], hi: &m
 
 // The same for one group.
 fn one_group(q: &[u8], t: &[u8], block: &[u8], g: usize, lo: &mut [u8], hi: &mut [u8])
-    requires { ⌜ (g < blockGroups (length (now q))) × Ready (now q) (now t) (now block) × (length (now lo) ≡ 16) × (length (now hi) ≡ 16) ⌝ }
+    requires { ⌜ (g < blockGroups (length (now q))) × BlockReady (now q) (now t) (now block) × (length (now lo) ≡ 16) × (length (now hi) ≡ 16) ⌝ }
     ensures { λ _. ⌜ Sixteen (now (q .entry)) (now (block .entry)) 0 g 1 (now (lo .exit)) ⌝ }
     ensures { λ _. ⌜ Sixteen (now (q .entry)) (now (block .entry)) 16 g 1 (now (hi .exit)) ⌝ }
 {
@@ -120,7 +120,7 @@ fn put(out: &mut [u16], at: usize, acc: &[u16])
 
 // What the lanes pick in the m groups from g on.
 fn stretch(q: &[u8], t: &[u8], block: &[u8], g: usize, m: usize, out: &mut [u16])
-    requires { ⌜ (m ≤ 1024) × (g + m ≤ blockGroups (length (now q))) × Ready (now q) (now t) (now block) × (length (now out) ≡ 32) ⌝ }
+    requires { ⌜ (m ≤ 1024) × (g + m ≤ blockGroups (length (now q))) × BlockReady (now q) (now t) (now block) × (length (now out) ≡ 32) ⌝ }
     ensures { λ _. ⌜ Lanes (now (q .entry)) (now (block .entry)) g m (now (out .exit)) ⌝ }
 {
     let mut low = [0u16; 16];
@@ -162,7 +162,7 @@ fn gather(sums: &[u32], part: &[u16]) -> [u32; 32]
 // The sums of the 32 lanes, from the query's wide table. The last stretch is a call of its own, so that `stretch` stays a function
 // of its own: were it put in here, its numbers of 16 bits would be kept in the shape of those of 32, which costs a tenth.
 pub fn lane_sums(q: &[u8], t: &[u8], block: &[u8]) -> [u32; 32]
-    requires { ⌜ Ready (now q) (now t) (now block) ⌝ }
+    requires { ⌜ BlockReady (now q) (now t) (now block) ⌝ }
     ensures { λ r. ⌜ LaneSums (now (q .entry)) (now (block .entry)) r ⌝ }
 {
     let n = (q.len() + 3) / 4;
@@ -206,7 +206,7 @@ pub fn fill_wide(q: &[u8], t: &mut [u8])
 
 // The wide table of a query, in a buffer of its size or a longer one, and the sums of a block.
 fn wide_sums(q: &[u8], block: &[u8], t: &mut [u8]) -> [u32; 32]
-    requires { ⌜ Query (now q) × (length (now block) ≡ blockSize (length (now q))) × (64 * blockGroups (length (now q)) ≤ length (now t)) ⌝ }
+    requires { ⌜ QueryCodes (now q) × (length (now block) ≡ blockSize (length (now q))) × (64 * blockGroups (length (now q)) ≤ length (now t)) ⌝ }
     ensures { λ r. ⌜ LaneSums (now (q .entry)) (now (block .entry)) r ⌝ }
 {
     fill_wide(q, t);
@@ -215,7 +215,7 @@ fn wide_sums(q: &[u8], block: &[u8], t: &mut [u8]) -> [u32; 32]
 
 // The sums of a block, with a table of their own.
 pub fn block_sums(q: &[u8], block: &[u8]) -> [u32; 32]
-    requires { ⌜ Query (now q) × (length (now block) ≡ blockSize (length (now q))) ⌝ }
+    requires { ⌜ QueryCodes (now q) × (length (now block) ≡ blockSize (length (now q))) ⌝ }
     ensures { λ r. ⌜ LaneSums (now (q .entry)) (now (block .entry)) r ⌝ }
 {
     if q.len() <= FEW_DIMS {

@@ -9,8 +9,8 @@ ghost use Rattle.words.specs.Digits.{bit, join};
 ghost use Rattle.words.specs.Limits.{mostDims, mostSum};
 ghost use Rattle.words.specs.Sums.{sumTo};
 ghost use Rattle.code.specs.Code.{codeWords, codeSize, codeBit, wordsBit};
-ghost use Rattle.sums.specs.Sums.{plainSum, planeWord};
-ghost use Rattle.sums.specs.Held.{Query, PlaneAt, Planes};
+ghost use Rattle.sums.specs.Sums.{plainSum, planeWord, QueryCodes};
+ghost use Rattle.sums.specs.Parts.{PlaneAt, Planes};
 use words::u32_at;
 use words::u64_at;
 
@@ -82,7 +82,7 @@ fn fill_plane(q: &[u8], p: u32, t: &mut [u64], at: usize)
     }
 }
 
-// The planes of a query, in a buffer of ours or a longer one. The Rust's `binarize`.
+// The planes of a query, in a buffer of their size or a longer one. The Rust's `binarize`.
 pub fn binarize(q: &[u8], t: &mut [u64])
     requires { ⌜ (length (now q) ≤ mostDims) × (4 * codeWords (length (now q)) ≤ length (now t)) ⌝ }
     ensures { λ _. ⌜ Planes (now (q .entry)) (now (t .exit)) ⌝ }
@@ -117,7 +117,7 @@ fn plane_ones(words: &[u8], t: &[u64], at: usize, n: usize) -> u32
 
 // The sum of a single code, from its word bytes and the query's planes, one pass for each plane. The Rust's function of this name.
 pub fn asymmetric_binary_dot_product(q: &[u8], t: &[u64], words: &[u8]) -> u32
-    requires { ⌜ Query (now q) × Planes (now q) (now t) × (length (now words) ≡ 8 * codeWords (length (now q))) ⌝ }
+    requires { ⌜ QueryCodes (now q) × Planes (now q) (now t) × (length (now words) ≡ 8 * codeWords (length (now q))) ⌝ }
     ensures { λ r. ⌜ (r ≡ plainSum (now (q .entry)) (wordsBit (now (words .entry)))) × (r ≤ mostSum) ⌝ }
 {
     let n = (q.len() + 63) / 64;
@@ -129,7 +129,7 @@ pub fn asymmetric_binary_dot_product(q: &[u8], t: &[u64], words: &[u8]) -> u32
 
 // The planes of a query, in a buffer of their size or a longer one, and the sum of a single code.
 pub fn code_sum(q: &[u8], code: &[u8], t: &mut [u64]) -> u32
-    requires { ⌜ Query (now q) × (length (now code) ≡ codeSize (length (now q))) × (4 * codeWords (length (now q)) ≤ length (now t)) ⌝ }
+    requires { ⌜ QueryCodes (now q) × (length (now code) ≡ codeSize (length (now q))) × (4 * codeWords (length (now q)) ≤ length (now t)) ⌝ }
     ensures { λ r. ⌜ r ≡ plainSum (now (q .entry)) (codeBit (now (code .entry))) ⌝ }
 {
     binarize(q, t);

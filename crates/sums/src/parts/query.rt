@@ -3,8 +3,7 @@ ghost use mathlib.Core.Path.{_≡_};
 ghost use Prim.Native.Nat.{_≤_};
 ghost use Rattle.words.specs.Limits.{mostSum, topCode};
 ghost use Rattle.words.specs.Lists.{anyAbove};
-ghost use Rattle.sums.specs.Sums.{querySum};
-ghost use Rattle.sums.specs.Held.{Query};
+ghost use Rattle.sums.specs.Sums.{querySum, QueryCodes};
 use words::TOP_CODE;
 use words::wide;
 
@@ -17,7 +16,7 @@ pub fn above_top(q: &[u8]) -> bool
 
 // The sum of all query codes.
 pub fn total(q: &[u8]) -> u32
-    requires { ⌜ Query (now q) ⌝ }
+    requires { ⌜ QueryCodes (now q) ⌝ }
     ensures { λ r. ⌜ (r ≡ querySum (now (q .entry))) × (r ≤ mostSum) ⌝ }
 {
     let mut r = 0u32;

@@ -6,8 +6,8 @@ ghost use lib.ListN.{length, getD};
 ghost use Rattle.words.specs.Digits.{bit};
 ghost use Rattle.words.specs.Limits.{mostDims, topCode};
 ghost use Rattle.block.specs.Block.{blockGroups, blockSize};
-ghost use Rattle.sums.specs.Sums.{groupSum, groupsNibble};
-ghost use Rattle.sums.specs.Held.{Query, Table, Scanned, LaneSums};
+ghost use Rattle.sums.specs.Sums.{groupSum, groupsNibble, QueryCodes};
+ghost use Rattle.sums.specs.Parts.{Table, Scanned, LaneSums};
 use words::byte_at;
 use words::wide;
 
@@ -40,7 +40,7 @@ fn entry(a: u8, b: u8, c: u8, d: u8, m: u8) -> u8
 
 // The entries of group g, after those before it.
 fn entries(q: &[u8], t: &mut [u8], g: usize)
-    requires { ⌜ Query (now q) × (16 * g + 16 ≤ length (now t)) × (g < blockGroups mostDims) ⌝ }
+    requires { ⌜ QueryCodes (now q) × (16 * g + 16 ≤ length (now t)) × (g < blockGroups mostDims) ⌝ }
     requires { ⌜ ((i : ℕ) → i < 16 * g → getD (now t) i 0 ≡ groupSum (now q) (i / 16) (i % 16)) ⌝ }
     ensures { λ _. ⌜ ((i : ℕ) → i < 16 * g + 16 → getD (now (t .exit)) i 0 ≡ groupSum (now (q .entry)) (i / 16) (i % 16)) ⌝ }
 {
@@ -57,7 +57,7 @@ fn entries(q: &[u8], t: &mut [u8], g: usize)
 
 // The table of a query, in a buffer of its size or a longer one: entry m of group g at 16g + m. The Rust's `gen`.
 pub fn gen_table(q: &[u8], t: &mut [u8])
-    requires { ⌜ Query (now q) × (16 * blockGroups (length (now q)) ≤ length (now t)) ⌝ }
+    requires { ⌜ QueryCodes (now q) × (16 * blockGroups (length (now q)) ≤ length (now t)) ⌝ }
     ensures { λ _. ⌜ Table (now (q .entry)) (now (t .exit)) ⌝ }
 {
     let n = (q.len() + 3) / 4;
@@ -111,7 +111,7 @@ pub fn fast_scan_b4(t: &[u8], groups: &[u8], n: usize) -> [u32; 32]
 
 // The sums of the 32 lanes of a block, by the table.
 pub fn table_sums(q: &[u8], t: &mut [u8], block: &[u8]) -> [u32; 32]
-    requires { ⌜ Query (now q) × (16 * blockGroups (length (now q)) ≤ length (now t)) × (length (now block) ≡ blockSize (length (now q))) ⌝ }
+    requires { ⌜ QueryCodes (now q) × (16 * blockGroups (length (now q)) ≤ length (now t)) × (length (now block) ≡ blockSize (length (now q))) ⌝ }
     ensures { λ r. ⌜ LaneSums (now (q .entry)) (now (block .entry)) r ⌝ }
 {
     gen_table(q, t);

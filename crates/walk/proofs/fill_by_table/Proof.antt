@@ -8,10 +8,11 @@ use lib.Seq.{sets}
 use lib.Ieee.{toBits, binary32}
 use Rattle.words.specs.Bytes.{wordsOf}
 use Rattle.words.proofs.WordsLaws.{words-none}
+use Rattle.words.specs.Lists.{recordOf}
 use Rattle.estimate.specs.declared.Asked.the-variants.{LowerBound}
 use Rattle.estimate.specs.Record.{laneEstimate, laneWords}
 use Rattle.walk.specs.declared.Layout.the-variants.{Blocks}
-use Rattle.walk.specs.Walk.{recordOf, boundOf, boundWords}
+use Rattle.walk.specs.Walk.{boundOf, boundWords}
 use Rattle.walk.proofs.WalkLaws.{blocks-more, lane-bound}
 use borrow.Author.Needs.{needs}
 use Rattle.walk.proofs.fill_by_table.Statement.{statement}

@@ -7,11 +7,12 @@ use lib.ListN.{length, take}
 use lib.Ieee.{toBits, binary32}
 use Rattle.words.specs.Bytes.{wordsOf}
 use Rattle.words.proofs.WordsLaws.{words-none}
+use Rattle.words.specs.Lists.{recordOf}
 use Rattle.estimate.specs.declared.Asked.the-variants.{LowerBound}
 use Rattle.estimate.specs.Record.{codeEstimate}
 use Rattle.estimate.proofs.EstimateLaws.{floats-more}
 use Rattle.walk.specs.declared.Layout.the-variants.{Single}
-use Rattle.walk.specs.Walk.{recordOf, recordsSize, boundOf, boundWords}
+use Rattle.walk.specs.Walk.{recordsSize, boundOf, boundWords}
 use borrow.Author.Needs.{needs}
 use Rattle.walk.proofs.fill_codes.Statement.{statement}
 use Rattle.walk.proofs.fill_codes.Tie as tie

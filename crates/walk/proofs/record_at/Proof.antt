@@ -1,6 +1,6 @@
 -- `walk::record_at` meets its contract. Assumes nothing.
 use native.Mathlib.Omega.{arith}
-use Rattle.walk.specs.Walk.{recordOf}
+use Rattle.words.specs.Lists.{recordOf}
 use Rattle.walk.proofs.WalkLaws.{record-end}
 use Rattle.walk.proofs.record_at.Statement.{statement}
 use Rattle.walk.proofs.record_at.Tie as tie

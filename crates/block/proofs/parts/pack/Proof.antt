@@ -4,14 +4,14 @@ use Prim.Native.Nat.{ℕ, _+_, _-_, _*_, _/_, _<_, _≤_, zero-le}
 use native.Mathlib.Omega.{arith}
 use lib.ListN.{length, getD}
 use Rattle.words.proofs.ListLaws.{filled}
-use Rattle.block.specs.Block.{blockGroups, blockSize, blockOf, packedByte, packed}
+use Rattle.block.specs.Block.{blockGroups, blockSize, packedBlockByte, packedBlock}
 use borrow.Author.Needs.{needs}
 use Rattle.block.proofs.parts.pack.Statement.{statement}
 use Rattle.block.proofs.parts.pack.Tie as tie
 
 abbrev Inv-loop : tie.InvT-loop
 Inv-loop codes dims block₀ n g₀ block g = (g ≤ blockGroups dims) × (length block ≡ blockSize dims)
-    × ((i : ℕ) → i < 512 + 16 * g → getD block i 0 ≡ packedByte dims codes i)
+    × ((i : ℕ) → i < 512 + 16 * g → getD block i 0 ≡ packedBlockByte dims codes i)
 
 abbrev μ-loop : tie.MeasureT-loop
 μ-loop codes dims block₀ n g₀ block g = blockGroups dims - g
@@ -42,11 +42,11 @@ same-length : tie.Need-same-length Inv-loop μ-loop
 same-length c = search needs
 
 returns : tie.Need-returns Inv-loop μ-loop
-unfolding packed packedByte blockOf
+unfolding packedBlock
 returns c =
     let a = c .before .before .before .before .before .before .before .before .args in
     let l = c .before .loop in
-    filled (blockSize (a .dims)) (packedByte (a .dims) (a .codes .now)) (l .block) (l .inv .1) (λ i h. l .inv .2 i (omega arith))
+    filled (blockSize (a .dims)) (packedBlockByte (a .dims) (a .codes .now)) (l .block) (l .inv .1) (λ i h. l .inv .2 i (omega arith))
 
 pub pack-spec : {M : Type 1} → statement M
 pack-spec =

@@ -2,7 +2,7 @@
 use mathlib.Core.Path.{sym, _∙_}
 use Prim.Native.Nat.{ℕ}
 use lib.ListN.{getD}
-use Rattle.code.specs.Calls.{signClear}
+use Rattle.code.specs.Code.{signClear}
 use Rattle.code.proofs.CodeLaws.{byte-factor, byte-digits}
 use borrow.Author.Needs.{needs}
 use Rattle.code.proofs.parts.code_byte.Statement.{statement}

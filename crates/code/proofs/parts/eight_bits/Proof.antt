@@ -5,7 +5,7 @@ use mathlib.Core.List.{List}
 use native.Mathlib.Omega.{arith}
 use Rattle.words.specs.Digits.{join, kept}
 use Rattle.words.proofs.DigitLaws.{digit-more, join-none, kept-lt}
-use Rattle.code.specs.Calls.{signClear}
+use Rattle.code.specs.Code.{signClear}
 use Rattle.code.proofs.CodeLaws.{sign-lt}
 use Rattle.code.proofs.parts.eight_bits.Statement.{statement}
 use Rattle.code.proofs.parts.eight_bits.Tie as tie

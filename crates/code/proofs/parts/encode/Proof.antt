@@ -5,8 +5,7 @@ use native.Mathlib.Omega.{arith}
 use borrow.Author.Count.{below-none}
 use lib.ListN.{length, getD, length-set}
 use Rattle.words.proofs.ListLaws.{filled-more, filled}
-use Rattle.code.specs.Code.{codeSize, codeByte, codeOf}
-use Rattle.code.specs.Calls.{signClear}
+use Rattle.code.specs.Code.{codeSize, codeByte, codeOf, signClear}
 use Rattle.code.proofs.parts.encode.Statement.{statement}
 use Rattle.code.proofs.parts.encode.Tie as tie
 

@@ -1,6 +1,6 @@
 -- `estimate::parts::rough_of` meets its contract. Assumes nothing.
 use mathlib.Core.Path.{refl, _∙_}
-use Rattle.estimate.specs.Estimate.{spread}
+use Rattle.estimate.specs.Estimate.{twoSMinusQ}
 use Rattle.estimate.proofs.EstimateLaws.{rough-l2, rough-dot}
 use borrow.Author.Needs.{needs}
 use Rattle.estimate.proofs.parts.rough_of.Statement.{statement}
@@ -25,7 +25,7 @@ enum-told-2 : tie.Need-enum-told-2
 enum-told-2 c = search needs
 
 returns : tie.Need-returns
-unfolding spread
+unfolding twoSMinusQ
 returns c =
     let e2 = c .before .before in
     let e4 = e2 .before .before in
@@ -35,7 +35,7 @@ returns c =
     rough-l2 _ _ _ _ _ _ _ (e9 .halved .ensures) (e4 .halved2 .ensures ∙ rw (e8 .float-of .ensures, e7 .float-of2 .ensures) refl) (e2 .enum-told .given .1)
 
 returns-2 : tie.Need-returns-2
-unfolding spread
+unfolding twoSMinusQ
 returns-2 c =
     let e2 = c .before .before in
     let e5 = e2 .before .before .before in

@@ -2,7 +2,7 @@
 use mathlib.Core.Path.{refl}
 use native.Mathlib.Omega.{arith}
 use Rattle.words.proofs.FloatLaws.{none-missing}
-use Rattle.scalar.specs.Code.{quotient, codeAt}
+use Rattle.scalar.specs.Code.{quotient, dimensionCode}
 use borrow.Author.Needs.{needs}
 use Rattle.scalar.proofs.code.code_at.Statement.{statement}
 use Rattle.scalar.proofs.code.code_at.Tie as tie
@@ -26,7 +26,7 @@ code-of-requires : tie.Need-code-of-requires
 code-of-requires c κs = search needs
 
 returns : tie.Need-returns
-unfolding codeAt quotient
+unfolding dimensionCode quotient
 returns c =
     let f = c .before .before in
     rw (c .code-of .ensures, c .before .del-of .ensures, f .before .before .number-at .ensures, f .before .number-at2 .ensures, f .number-at3 .ensures) refl

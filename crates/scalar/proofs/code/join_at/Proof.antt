@@ -6,14 +6,14 @@ use native.Mathlib.Omega.{arith}
 use Rattle.words.specs.Digits.{join}
 use Rattle.words.proofs.DigitLaws.{join-none}
 use Rattle.digits.proofs.DigitLaws.{by-width, join-turn, place-lt}
-use Rattle.scalar.specs.Code.{codeAt}
+use Rattle.scalar.specs.Code.{dimensionCode}
 use Rattle.scalar.proofs.ScalarLaws.{code-small}
 use Rattle.scalar.proofs.code.join_at.Statement.{statement}
 use Rattle.scalar.proofs.code.join_at.Tie as tie
 
 abbrev Inv-loop : tie.InvT-loop
 Inv-loop bits top n dims vector lo hi at byte₀ place₀ j₀ byte place j =
-    (j ≤ n) × (place ≡ bits * j) × (byte ≡ join bits j (λ j. codeAt top vector lo hi (at + j)))
+    (j ≤ n) × (place ≡ bits * j) × (byte ≡ join bits j (λ j. dimensionCode top vector lo hi (at + j)))
 
 abbrev μ-loop : tie.MeasureT-loop
 μ-loop bits top n dims vector lo hi at byte₀ place₀ j₀ byte place j = n - j
@@ -42,7 +42,7 @@ shl-byte c = omega (arith, placed c)
 -- a turn of the loop: nothing is shifted out, and the sum fits
 turn : (c : tie.After-code-at Inv-loop μ-loop) → let a = c .before .before .before .before .before .before .args in let l = c .before .before .loop in
     let x = l .byte + c .code-at .result * 2 ^ l .place % 256 in
-    (x ≡ join (a .bits) (l .j + 1) (λ j. codeAt (a .top) (a .vector .now) (a .lo .now) (a .hi .now) (a .at + j))) × (x < 256)
+    (x ≡ join (a .bits) (l .j + 1) (λ j. dimensionCode (a .top) (a .vector .now) (a .lo .now) (a .hi .now) (a .at + j))) × (x < 256)
 turn c =
     let s = c .before .before .before .before .before .before in
     let a = s .args in

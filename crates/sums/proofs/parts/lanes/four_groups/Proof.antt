@@ -7,7 +7,7 @@ use borrow.Author.Count.{below-none}
 use lib.ListN.{length, getD, length-set}
 use Rattle.words.proofs.ListLaws.{filled-more}
 use Rattle.block.specs.Block.{laneNibble}
-use Rattle.sums.specs.Held.{groupsSum}
+use Rattle.sums.specs.Parts.{groupsSum}
 use Rattle.sums.proofs.GroupLaws.{groups-four}
 use borrow.Author.Needs.{needs}
 use Rattle.sums.proofs.parts.lanes.four_groups.Statement.{statement}

@@ -1,8 +1,7 @@
 -- `sums::parts::lanes::group` meets its contract. Assumes nothing.
-use Prim.Native.Nat.{_%_}
+use Prim.Native.Nat.{_%_, _+_, _*_, _/_, _<_}
 use Rattle.sums.proofs.GroupLaws.{group-of, wide-small}
 use mathlib.Core.Path.{_≡_, _∙_, ap, sym}
-use Prim.Native.Nat.{_+_, _*_, _/_, _<_}
 use native.Mathlib.Omega.{arith}
 use lib.ListN.{getD}
 use Rattle.sums.specs.Sums.{groupSum}

@@ -3,7 +3,7 @@ use mathlib.Core.Path.{_≡_, refl}
 use Prim.Native.Nat.{_-_, _≤_, zero-le}
 use native.Mathlib.Omega.{arith}
 use lib.ListN.{length}
-use Rattle.sums.specs.Held.{Lanes}
+use Rattle.sums.specs.Parts.{Lanes}
 use Rattle.sums.proofs.GroupLaws.{lanes-none, lanes-fit, lanes-more, lanes-plain}
 use borrow.Author.Needs.{needs}
 use Rattle.sums.proofs.parts.lanes.lane_sums.Statement.{statement}

@@ -1,6 +1,5 @@
 -- `sums::parts::lanes::row` meets its contract. Assumes nothing.
-use mathlib.Core.Path.{refl}
-use mathlib.Core.Path.{_≡_, _∙_, ap}
+use mathlib.Core.Path.{refl, _≡_, _∙_, ap}
 use Prim.Native.Nat.{ℕ, _+_, _-_, _*_, _/_, _<_, _≤_, zero-le}
 use native.Mathlib.Omega.{arith}
 use lib.ListN.{length, getD, length-set}

@@ -3,7 +3,7 @@ use mathlib.Core.Path.{_≡_, refl, _∙_, subst}
 use Prim.Native.Nat.{ℕ, _+_, _-_, _≤_, zero-le}
 use native.Mathlib.Omega.{arith}
 use lib.ListN.{length}
-use Rattle.sums.specs.Held.{Sixteen, Lanes}
+use Rattle.sums.specs.Parts.{Sixteen, Lanes}
 use Rattle.sums.proofs.GroupLaws.{sixteen-none, sixteen-fit, sixteen-more, lanes-of}
 use borrow.Author.Needs.{needs}
 use Rattle.sums.proofs.parts.lanes.stretch.Statement.{statement}

@@ -3,7 +3,7 @@ use mathlib.Core.Path.{_≡_, refl, sym, _∙_, subst}
 use Prim.Native.Nat.{ℕ, _-_, _≤_, zero-le}
 use native.Mathlib.Omega.{arith}
 use lib.ListN.{getD-replicate}
-use Rattle.sums.specs.Held.{Scanned}
+use Rattle.sums.specs.Parts.{Scanned}
 use Rattle.sums.proofs.TableLaws.{count-none}
 use borrow.Author.Needs.{needs}
 use Rattle.sums.proofs.parts.table.fast_scan_b4.Statement.{statement}

@@ -6,7 +6,7 @@ use native.Mathlib.Omega.{arith}
 use lib.ListN.{length, drop, length-drop}
 use lib.Seq.{take-all}
 use Rattle.block.specs.Block.{blockGroups}
-use Rattle.sums.specs.Held.{Scanned}
+use Rattle.sums.specs.Parts.{Scanned}
 use Rattle.sums.proofs.TableLaws.{scanned-plain}
 use borrow.Author.Needs.{needs}
 use Rattle.sums.proofs.parts.table.table_sums.Statement.{statement}

@@ -1,4 +1,4 @@
--- What the private functions of the scan promise. No public promise cites this file.
+-- What the workers of module 9 promise each other: the scan of the lists, and what it finds. No public promise cites this file.
 use mathlib.Core.Path.{_≡_}
 use mathlib.Core.Bool.{Bool, false, cond}
 use mathlib.Core.List.{List}

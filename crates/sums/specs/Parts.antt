@@ -1,18 +1,13 @@
--- What the workers of module 6 ask and hold: a query, what is made of it once, and the sums of lanes.
+-- What the workers of module 6 ask and promise: what is made of a query once, and the sums of lanes. No public promise cites this file.
 use Prim.Native.Nat.{ℕ, _+_, _*_, _/_, _%_, _≤_, _<_}
 use mathlib.Core.Path.{_≡_}
 use mathlib.Core.List.{List}
 use lib.ListN.{length, getD}
-use Rattle.words.specs.Limits.{mostDims, topCode, mostSum}
+use Rattle.words.specs.Limits.{mostSum}
 use Rattle.words.specs.Sums.{sumTo}
 use Rattle.code.specs.Code.{codeWords}
 use Rattle.block.specs.Block.{blockGroups, blockSize, laneNibble, laneBit}
-use Rattle.sums.specs.Sums.{plainSum, planeWord, groupsNibble, groupSum, tableCount}
-
--- a query that was judged: as few codes as a RaBitQ code has dims, none above the greatest
-pub record Query (qs : List ℕ) : Type 0 where
-  pub few : length qs ≤ mostDims
-  pub small : (d : ℕ) → getD qs d 0 ≤ topCode
+use Rattle.sums.specs.Sums.{QueryCodes, plainSum, planeWord, groupsNibble, groupSum, tableCount}
 
 -- plane p of a query stands in t from place at on
 abbrev pub PlaneAt : List ℕ → ℕ → List ℕ → ℕ → Type 0
@@ -57,9 +52,9 @@ Lanes qs block g n s = Each 32 (λ k. groupsSum qs (laneNibble block k) g n) s
 abbrev pub Scanned : List ℕ → List ℕ → ℕ → List ℕ → Type 0
 Scanned t groups n s = Each 32 (λ k. tableCount t (groupsNibble groups k) n) s
 
--- what the workers of a block ask: a query, its wide table, and a block of its dims
-pub record Ready (qs t block : List ℕ) : Type 0 where
-  pub query : Query qs
+-- what the workers of a block ask: query codes, their wide table, and a block of their dims
+pub record BlockReady (qs t block : List ℕ) : Type 0 where
+  pub query : QueryCodes qs
   pub wide : Wide qs t
   pub sized : length block ≡ blockSize (length qs)
 

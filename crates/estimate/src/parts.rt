@@ -30,6 +30,7 @@ use words::MISSING;
 use words::Metric;
 use words::any_nan;
 use words::bad_form;
+use words::bad_lengths;
 use words::f32_at;
 use words::number_at;
 use words::put_f32;
@@ -143,15 +144,6 @@ pub fn query_refusal(dims: u32, other: bool, v: Query, q: &[u8], form: bool) -> 
     0
 }
 
-fn other_lengths(rec: usize, size: usize, out: usize, room: usize) -> bool
-    ensures { λ r. ⌜ r ≡ (not (eqb rec size) || not (eqb out room)) ⌝ }
-{
-    if rec != size {
-        return true;
-    }
-    out != room
-}
-
 // The same, of a call on one record: the lengths of the record and of the buffer that is written, beside those that they must have.
 pub fn record_refusal(
     metric: u32,
@@ -166,7 +158,7 @@ pub fn record_refusal(
     requires { ⌜ badDims mostDims dims ≡ false ⌝ }
     ensures { λ r. ⌜ r ≡ queryNumber dims (not (eqb rec size) || not (eqb out room)) v (now (q .entry)) (badForm metric) ⌝ }
 {
-    let other = other_lengths(rec, size, out, room);
+    let other = bad_lengths(rec, size, out, room);
     query_refusal(dims, other, v, q, bad_form(metric))
 }
 

@@ -4,8 +4,8 @@ use borrow.Author.Needs.{needs}
 use Rattle.estimate.proofs.parts.record_refusal.Statement.{statement}
 use Rattle.estimate.proofs.parts.record_refusal.Tie as tie
 
-other-lengths-requires : tie.Need-other-lengths-requires
-other-lengths-requires c κs = search needs
+bad-lengths-requires : tie.Need-bad-lengths-requires
+bad-lengths-requires c κs = search needs
 
 bad-form-requires : tie.Need-bad-form-requires
 bad-form-requires c κs = search needs
@@ -14,8 +14,8 @@ query-refusal-requires : tie.Need-query-refusal-requires
 query-refusal-requires c κs = search needs
 
 returns : tie.Need-returns
-returns c = rw (c .query-refusal .ensures, c .before .before .other-lengths .ensures, c .before .bad-form .ensures) refl
+returns c = rw (c .query-refusal .ensures, c .before .before .bad-lengths .ensures, c .before .bad-form .ensures) refl
 
 pub record-refusal-spec : {M : Type 1} → statement M
 record-refusal-spec =
-    tie.close (tie.spec other-lengths-requires bad-form-requires query-refusal-requires returns)
+    tie.close (tie.spec bad-lengths-requires bad-form-requires query-refusal-requires returns)

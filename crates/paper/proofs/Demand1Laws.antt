@@ -7,7 +7,7 @@ use lib.Dec.{leb, ltb}
 use lib.ListN.{length}
 use lib.Ieee.{Float, isNan}
 use Rattle.words.specs.Floats.{missing}
-use Rattle.words.specs.Limits.{mostDims, mostScalarDims, mostRecords, topCode}
+use Rattle.words.specs.Limits.{mostDims, mostScalarDims, topCode}
 use Rattle.words.specs.Lists.{anyBelow, anyAbove}
 use Rattle.words.specs.Metrics.{metricOf}
 use Rattle.words.specs.Refusals.{answer, orElse, badDims, badLength, badForm, sizeNumber, sizeAnswer}

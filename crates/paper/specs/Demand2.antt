@@ -30,7 +30,7 @@ abbrev pub ZeroPads : ℕ → List ℕ → Type 0
 ZeroPads dims code = (d : ℕ) → dims ≤ d → d < 64 * codeWords dims → codeBit code d ≡ 0
 
 abbrev pub ZeroBlockPads : ℕ → List ℕ → Type 0
-ZeroBlockPads dims whole = (k d : ℕ) → k < 32 → dims ≤ d → d < 4 * blockGroups dims → laneBit whole k d ≡ 0
+ZeroBlockPads dims block = (k d : ℕ) → k < 32 → dims ≤ d → d < 4 * blockGroups dims → laneBit block k d ≡ 0
 
 pub record Demand2 : Type 0 where
   -- digits: reading digit i of what was packed gives code i, and 0 past the last
@@ -45,26 +45,26 @@ pub record Demand2 : Type 0 where
       → tableCount (tableOf query) (wordsNibble (drop 16 code)) (blockGroups (length query)) ≡ plainSum query (codeBit code)
   pub most : (query code : List ℕ) → QueryCodes query → Bytes code → plainSum query (codeBit code) ≤ 65535
   -- and so are the fast count and the nibble-table count of every lane of a block
-  pub lanes : (query whole : List ℕ) (k : ℕ) → QueryCodes query → fastCount query (laneNibble whole k) ≡ plainSum query (laneBit whole k)
-  pub lane-table : (query whole : List ℕ) (k : ℕ) → QueryCodes query
-      → tableCount (tableOf query) (laneNibble whole k) (blockGroups (length query)) ≡ plainSum query (laneBit whole k)
-  pub lane-most : (query whole : List ℕ) (k : ℕ) → QueryCodes query → plainSum query (laneBit whole k) ≤ 65535
+  pub lanes : (query block : List ℕ) (k : ℕ) → QueryCodes query → fastCount query (laneNibble block k) ≡ plainSum query (laneBit block k)
+  pub lane-table : (query block : List ℕ) (k : ℕ) → QueryCodes query
+      → tableCount (tableOf query) (laneNibble block k) (blockGroups (length query)) ≡ plainSum query (laneBit block k)
+  pub lane-most : (query block : List ℕ) (k : ℕ) → QueryCodes query → plainSum query (laneBit block k) ≤ 65535
   -- bit i of word w of a single code is dimension 64 w + i
   pub word-bits : (code : List ℕ) (w i : ℕ) → Bytes code → i < 64 → bit (codeWord code w) i ≡ codeBit code (64 * w + i)
   -- packing 32 codes and reading lane k back gives code k, pad bits zero; packing the lanes of a block gives the block, pad bits zero
   pub lane-back : (dims : ℕ) (codes : List ℕ) (k : ℕ) → k < 32 → laneCode dims (packedBlock dims codes) k ≡ clearedCode dims (recordOf (codeSize dims) codes k)
-  pub block-back : (dims : ℕ) (whole : List ℕ) → packedBlock dims (lanesOf dims whole) ≡ clearedBlock dims whole
+  pub block-back : (dims : ℕ) (block : List ℕ) → packedBlock dims (lanesOf dims block) ≡ clearedBlock dims block
   -- so a code whose pad bits are 0 comes back as it was, and so does a block
   pub code-again : (dims : ℕ) (codes : List ℕ) (k : ℕ) → length codes ≡ 32 * codeSize dims → Bytes codes → k < 32
       → ZeroPads dims (recordOf (codeSize dims) codes k) → laneCode dims (packedBlock dims codes) k ≡ recordOf (codeSize dims) codes k
-  pub block-again : (dims : ℕ) (whole : List ℕ) → length whole ≡ blockSize dims → Bytes whole → ZeroBlockPads dims whole
-      → packedBlock dims (lanesOf dims whole) ≡ whole
+  pub block-again : (dims : ℕ) (block : List ℕ) → length block ≡ blockSize dims → Bytes block → ZeroBlockPads dims block
+      → packedBlock dims (lanesOf dims block) ≡ block
   -- and every code that encode makes, from these factors and this vector, has pad bits 0
   pub encoded-pads : (dims : ℕ) (factors vector : List ℕ) → ZeroPads dims (codeOf dims (λ i. getD factors i 0) (signClear vector))
   -- a lane of a block gives the estimate of its single code: the same bits, or a NaN where the single call refuses with 8
-  pub lane-estimate : (asked : Asked) (metric dims : ℕ) (v : Query) (query whole out lanes one : List ℕ) (k : ℕ)
-      → blockAnswer asked metric dims v query whole out ≡ (0, lanes) → length one ≡ 4 → k < 32
-      → codeAnswer asked metric dims v query (laneCode dims whole k) one ≡ cond (isNan (f32At lanes k)) (8, one) (0, take 4 (drop (4 * k) lanes))
+  pub lane-estimate : (asked : Asked) (metric dims : ℕ) (v : Query) (query block out lanes one : List ℕ) (k : ℕ)
+      → blockAnswer asked metric dims v query block out ≡ (0, lanes) → length one ≡ 4 → k < 32
+      → codeAnswer asked metric dims v query (laneCode dims block k) one ≡ cond (isNan (f32At lanes k)) (8, one) (0, take 4 (drop (4 * k) lanes))
   -- n codes packed 32 at a time, the last block filled up with any codes: the walk over the blocks (layout 2) is the walk over the codes (layout 1)
   pub walks : (metric dims : ℕ) (v : Query) (query codes fill : List ℕ) (n start end : ℕ) (ids bounds marks count : List ℕ)
       → length codes ≡ n * codeSize dims

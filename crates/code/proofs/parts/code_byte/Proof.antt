@@ -1,6 +1,5 @@
 -- `code::parts::code_byte` meets its contract. Assumes nothing.
 use mathlib.Core.Path.{sym, _∙_}
-use Prim.Native.Nat.{ℕ}
 use lib.ListN.{getD}
 use Rattle.code.specs.Code.{signClear}
 use Rattle.code.proofs.CodeLaws.{byte-factor, byte-digits}

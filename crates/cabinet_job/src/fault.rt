@@ -1,6 +1,7 @@
 // What can go wrong: with the command, with a file, or what the library refuses, with its number.
 ghost use mathlib.Core.Path.{_≡_};
 ghost use Rattle.cabinet_job.specs.Job.{stopsAt};
+use crate::decimal::put;
 
 pub enum Fault {
     Usage,
@@ -34,10 +35,6 @@ pub fn stops(o: Outcome) -> bool
         Outcome::Fine => false,
         Outcome::Stop(_) => true,
     }
-}
-
-fn put(s: &[u8]) {
-    io::write_all(1, s);
 }
 
 // The paper's name of a refusal.

@@ -1,5 +1,6 @@
 -- `sums::parts::table::entry` meets its contract. Assumes nothing.
-use Prim.Native.Nat.{ℕ, _+_, _≤_}
+use Prim.Native.Nat.{ℕ, _+_, _*_, _≤_}
+use mathlib.Core.Path.{_≡_}
 use mir.Val.{Fits}
 use mir.Syntax.{w8}
 use borrow.Author.Needs.{needs}
@@ -16,6 +17,12 @@ three p q r l m n = search needs
 
 four : {x y z w a b d e : ℕ} → x ≤ a → y ≤ b → z ≤ d → w ≤ e → a ≤ 15 → b ≤ 15 → d ≤ 15 → e ≤ 15 → Fits w8 (x + y + z + w)
 four p q r s l m n o = search needs
+
+picked-is : (a : ℕ) {x i j : ℕ} → x ≡ a * i → i ≡ j → x ≡ a * j
+picked-is a p q = cc
+
+all-four : {x y z w x′ y′ z′ w′ : ℕ} → x ≡ x′ → y ≡ y′ → z ≡ z′ → w ≡ w′ → x + y + z + w ≡ x′ + y′ + z′ + w′
+all-four p q r s = cc
 
 digit-of-requires : tie.Need-digit-of-requires
 digit-of-requires c κs = omega arith
@@ -61,7 +68,16 @@ add-result-3 c =
     four (a .picked .ensures .1) (b .picked2 .ensures .1) (d .picked3 .ensures .1) (c .picked4 .ensures .1) (p .0) (p .1) (p .2) (p .3)
 
 returns : tie.Need-returns
-returns c = cc
+returns c =
+    let d = c .before .before in
+    let b = d .before .before in
+    let a = b .before .before in
+    let g = a .before .before .args in
+    all-four
+    (picked-is (g .a) (a .picked .ensures .0) (a .before .digit-of .ensures .0))
+    (picked-is (g .b) (b .picked2 .ensures .0) (b .before .digit-of2 .ensures .0))
+    (picked-is (g .c) (d .picked3 .ensures .0) (d .before .digit-of3 .ensures .0))
+    (picked-is (g .d) (c .picked4 .ensures .0) (c .before .digit-of4 .ensures .0))
 
 pub entry-spec : {M : Type 1} → statement M
 entry-spec =

@@ -8,6 +8,10 @@ pub enum Number {
     Not,
 }
 
+pub fn put(s: &[u8]) {
+    io::write_all(1, s);
+}
+
 // The value so far with one digit more. Nine digits stay below 2^32.
 fn with_digit(n: u32, c: u8) -> u32
     requires { ⌜ (n < 100000000) × (48 ≤ c) × (c ≤ 57) ⌝ }
@@ -61,7 +65,7 @@ fn print_fraction(rest: u64, unit: u64)
     if rest == 0 {
         return;
     }
-    io::write_all(1, b".");
+    put(b".");
     let mut left = rest;
     let mut n: u32 = 0;
     while n < 9 {
@@ -73,7 +77,7 @@ fn print_fraction(rest: u64, unit: u64)
         n += 1;
     }
     if 0 < left {
-        io::write_all(1, b"..");
+        put(b"..");
     }
 }
 
@@ -88,8 +92,8 @@ fn print_split(m: u64, k: u32)
 
 fn print_scaled(m: u64, sign: &[u8], k: u32) {
     io::print_decimal(1, m);
-    io::write_all(1, b" x 2^");
-    io::write_all(1, sign);
+    put(b" x 2^");
+    put(sign);
     io::print_decimal(1, k as u64);
 }
 
@@ -104,30 +108,35 @@ fn print_magnitude(m: u64, e: u32)
     } else if 90 <= e {
         print_split(m, 150 - e);
     } else if m == 0 {
-        io::write_all(1, b"0");
+        put(b"0");
     } else {
         print_scaled(m, b"-", 150 - e);
+    }
+}
+
+// f and e are the fraction and the exponent of a float.
+fn print_parts(f: u64, e: u32)
+    requires { ⌜ f < 2 ^ 23 ⌝ }
+{
+    if e == 0 {
+        print_magnitude(f, 1);
+    } else if e < 255 {
+        print_magnitude(f + 0x80_0000, e);
+    } else if f == 0 {
+        put(b"infinity");
+    } else {
+        put(b"NaN");
     }
 }
 
 // The float that the bits write, exactly unless it ends in two points, and the bits.
 pub fn print_float(bits: u32) {
     if 0x8000_0000 <= bits {
-        io::write_all(1, b"-");
+        put(b"-");
     }
     let low = bits % 0x8000_0000;
-    let e = low / 0x80_0000;
-    let f = (low % 0x80_0000) as u64;
-    if e == 0 {
-        print_magnitude(f, 1);
-    } else if e < 255 {
-        print_magnitude(f + 0x80_0000, e);
-    } else if f == 0 {
-        io::write_all(1, b"infinity");
-    } else {
-        io::write_all(1, b"NaN");
-    }
-    io::write_all(1, b" (0x");
+    print_parts((low % 0x80_0000) as u64, low / 0x80_0000);
+    put(b" (0x");
     io::print_hex(1, bits as u64, 8);
-    io::write_all(1, b")");
+    put(b")");
 }

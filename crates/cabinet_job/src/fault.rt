@@ -1,6 +1,7 @@
 // What can go wrong: with the command, with a file, or what the library refuses, with its number.
 ghost use mathlib.Core.Path.{_≡_};
 ghost use Rattle.cabinet_job.specs.Job.{stopsAt};
+use crate::decimal::put;
 
 pub enum Fault {
     Usage,
@@ -36,86 +37,99 @@ pub fn stops(o: Outcome) -> bool
     }
 }
 
-// The refusal's number and the paper's name of it.
-fn say_refusal(number: u32) {
-    io::write_all(1, b" is refused: ");
-    io::print_decimal(1, number as u64);
+// The paper's name of a refusal.
+fn say_name(number: u32) {
     match number {
-        1 => io::write_all(1, b" BAD_DIMS\n"),
-        2 => io::write_all(1, b" BAD_WIDTH\n"),
-        3 => io::write_all(1, b" BAD_LENGTH\n"),
-        4 => io::write_all(1, b" MISSING\n"),
-        5 => io::write_all(1, b" BAD_VALUE\n"),
-        6 => io::write_all(1, b" OUT_OF_RANGE\n"),
-        7 => io::write_all(1, b" NO_ROOM\n"),
-        8 => io::write_all(1, b" NO_ESTIMATE\n"),
-        9 => io::write_all(1, b" NOT_ASKED\n"),
-        _ => io::write_all(1, b"\n"),
+        1 => put(b" BAD_DIMS"),
+        2 => put(b" BAD_WIDTH"),
+        3 => put(b" BAD_LENGTH"),
+        4 => put(b" MISSING"),
+        5 => put(b" BAD_VALUE"),
+        _ => say_late_name(number),
     }
-    ;
+}
+
+fn say_late_name(number: u32) {
+    match number {
+        6 => put(b" OUT_OF_RANGE"),
+        7 => put(b" NO_ROOM"),
+        8 => put(b" NO_ESTIMATE"),
+        9 => put(b" NOT_ASKED"),
+        _ => {}
+    }
+}
+
+// The refusal's number and name.
+fn say_refusal(number: u32) {
+    put(b" is refused: ");
+    io::print_decimal(1, number as u64);
+    say_name(number);
+    put(b"\n");
 }
 
 fn say_block(first: u32) {
-    io::write_all(1, b"records file: the block from record ");
+    put(b"records file: the block from record ");
     io::print_decimal(1, first as u64);
-    io::write_all(1, b" on");
+    put(b" on");
 }
 
 fn say_distance(of: u64) {
-    io::write_all(1, b"distances file: the distance of record ");
+    put(b"distances file: the distance of record ");
     io::print_decimal(1, of);
 }
 
-// One line on standard output.
+// One line on standard output. First the command, and what a file as a whole lacks.
 fn say(f: Fault) {
     match f {
-        Fault::Usage => {
-            io::write_all(1, b"usage: cabinet RECORDS DISTANCES [WANTED]\n");
-        }
-        Fault::NoRecords => {
-            io::write_all(1, b"records file: it can't be opened\n");
-        }
-        Fault::NoDistances => {
-            io::write_all(1, b"distances file: it can't be opened\n");
-        }
-        Fault::ShortHeader => {
-            io::write_all(1, b"records file: it ends inside the header\n");
-        }
-        Fault::NoCabinet => {
-            io::write_all(1, b"records file: it doesn't begin with LKCAB001\n");
-        }
+        Fault::Usage => put(b"usage: cabinet RECORDS DISTANCES [WANTED]\n"),
+        Fault::NoRecords => put(b"records file: it can't be opened\n"),
+        Fault::NoDistances => put(b"distances file: it can't be opened\n"),
+        Fault::Longer => put(b"records file: it goes on after its last block\n"),
+        Fault::Floats => put(b"distances file: it isn't one float for each record\n"),
+        _ => say_in_header(f),
+    }
+}
+
+fn say_in_header(f: Fault) {
+    match f {
+        Fault::ShortHeader => put(b"records file: it ends inside the header\n"),
+        Fault::NoCabinet => put(b"records file: it doesn't begin with LKCAB001\n"),
         Fault::Dims(number) => {
-            io::write_all(1, b"records file: the number of dims");
+            put(b"records file: the number of dims");
             say_refusal(number);
         }
-        Fault::ShortQuery => {
-            io::write_all(1, b"records file: it ends inside the query's codes\n");
-        }
+        Fault::ShortQuery => put(b"records file: it ends inside the query's codes\n"),
         Fault::Query(number) => {
-            io::write_all(1, b"records file: the query");
+            put(b"records file: the query");
             say_refusal(number);
         }
+        _ => say_of_record(f),
+    }
+}
+
+fn say_of_record(f: Fault) {
+    match f {
         Fault::ShortBlock(first) => {
             say_block(first);
-            io::write_all(1, b" is cut off\n");
+            put(b" is cut off\n");
         }
         Fault::Block(first, number) => {
             say_block(first);
             say_refusal(number);
         }
-        Fault::Longer => {
-            io::write_all(1, b"records file: it goes on after its last block\n");
-        }
-        Fault::Floats => {
-            io::write_all(1, b"distances file: it isn't one float for each record\n");
-        }
         Fault::Lists(number) => {
-            io::write_all(1, b"the list of candidates");
+            put(b"the list of candidates");
             say_refusal(number);
         }
+        _ => say_of_distance(f),
+    }
+}
+
+fn say_of_distance(f: Fault) {
+    match f {
         Fault::Unread(of) => {
             say_distance(of);
-            io::write_all(1, b" can't be read\n");
+            put(b" can't be read\n");
         }
         Fault::Distance(of, number) => {
             say_distance(of);
@@ -123,8 +137,9 @@ fn say(f: Fault) {
         }
         Fault::Below(of) => {
             say_distance(of);
-            io::write_all(1, b" is below its lower bound\n");
+            put(b" is below its lower bound\n");
         }
+        _ => {}
     }
 }
 

@@ -1,9 +1,10 @@
 // The candidates in order of their exact distances, each of which is read only when it is asked for.
 ghost use mathlib.Core.Path.{_≡_};
-ghost use Prim.Native.Nat.{_*_, _^_, _<_, _≤_};
+ghost use Prim.Native.Nat.{_+_, _*_, _^_, _<_, _≤_};
 ghost use lib.ListN.{length};
 ghost use Rattle.words.specs.Limits.{mostPlaces};
 use crate::decimal;
+use crate::decimal::put;
 use crate::fault;
 use crate::fault::Fault;
 use crate::fault::Outcome;
@@ -40,21 +41,37 @@ fn record_of(ids: &[u8], place: u32) -> u64
 }
 
 // What one call of the reranker led to: a distance was read, a candidate was given, or neither and the outcome says why.
-struct Turned {
-    read: bool,
-    given: bool,
-    outcome: Outcome,
+enum Step {
+    Read,
+    Given,
+    End(Outcome),
 }
 
-fn stopped(f: Fault) -> Turned {
-    Turned {
-        read: false,
-        given: false,
-        outcome: Outcome::Stop(f),
+fn stopped(f: Fault) -> Step {
+    Step::End(Outcome::Stop(f))
+}
+
+// The distance d of record `of` is supplied. One that is below its lower bound would break the order.
+fn take(
+    bounds: &[u8],
+    distances: &mut [u8],
+    marks: &mut [u8],
+    place: u32,
+    of: u64,
+    d: f32,
+) -> Step {
+    let mut count = [0u8; 4];
+    let refused = rerank::supply(bounds, distances, marks, place, d, &mut count);
+    if refused != 0 {
+        return stopped(Fault::Distance(of, refused));
     }
+    if d < float_at(bounds, place) {
+        return stopped(Fault::Below(of));
+    }
+    Step::Read
 }
 
-// The distance that was asked for is read and supplied. One that is below its lower bound would break the order.
+// The distance that was asked for is read and supplied.
 fn supply(
     fd: i32,
     ids: &[u8],
@@ -62,76 +79,77 @@ fn supply(
     distances: &mut [u8],
     marks: &mut [u8],
     place: u32,
-) -> Turned {
-    let at = record_of(ids, place);
+) -> Step {
+    let of = record_of(ids, place);
     let mut four = [0u8; 4];
-    if libc::pread(fd, &mut four, (4 * at) as i64) != 4 {
-        return stopped(Fault::Unread(at));
+    if libc::pread(fd, &mut four, (4 * of) as i64) != 4 {
+        return stopped(Fault::Unread(of));
     }
-    let d = words::f32_at(&four, 0);
-    let mut count = [0u8; 4];
-    let refused = rerank::supply(bounds, distances, marks, place, d, &mut count);
-    if refused != 0 {
-        return stopped(Fault::Distance(at, refused));
-    }
-    if d < float_at(bounds, place) {
-        return stopped(Fault::Below(at));
-    }
-    Turned {
-        read: true,
-        given: false,
-        outcome: Outcome::Fine,
-    }
+    take(bounds, distances, marks, place, of, words::f32_at(&four, 0))
 }
 
-// One call of the reranker, and what it asks for. The place and the distance of its answer go to given, where a Give leaves them.
+// One call of the reranker, and what it asks for. Its answer goes to out.
 fn turn(
     fd: i32,
     ids: &[u8],
     bounds: &[u8],
     distances: &mut [u8],
     marks: &mut [u8],
-    given: &mut [u8],
-) -> Turned
-    requires { ⌜ length (now given) ≡ 8 ⌝ }
+    out: &mut [u8],
+) -> Step
+    requires { ⌜ length (now out) ≡ 16 ⌝ }
 {
-    let mut out = [0u8; 16];
-    let refused = rerank::next(bounds, distances, marks, &mut out);
+    let refused = rerank::next(bounds, distances, marks, out);
     if refused != 0 {
         return stopped(Fault::Lists(refused));
     }
-    let answer = words::u32_at(&out, 0);
-    words::put_bytes(given, 0, &out[4..12]);
+    let answer = words::u32_at(out, 0);
     if answer == ASK {
-        return supply(fd, ids, bounds, distances, marks, words::u32_at(&out, 4));
+        return supply(fd, ids, bounds, distances, marks, words::u32_at(out, 4));
     }
-    Turned {
-        read: false,
-        given: answer == GIVE,
-        outcome: Outcome::Fine,
+    if answer == GIVE {
+        return Step::Given;
     }
+    Step::End(Outcome::Fine)
+}
+
+// One call whose answer goes to place g of given.
+fn turn_at(
+    fd: i32,
+    ids: &[u8],
+    bounds: &[u8],
+    distances: &mut [u8],
+    marks: &mut [u8],
+    given: &mut [u8],
+    g: usize,
+) -> Step
+    requires { ⌜ 16 * g + 16 ≤ length (now given) ⌝ }
+{
+    let at = 16 * g;
+    let end = at + 16;
+    turn(fd, ids, bounds, distances, marks, &mut given[at..end])
 }
 
 fn print_given(ids: &[u8], rank: u64, place: u32, bits: u32) {
     io::print_decimal(1, rank);
-    io::write_all(1, b". record ");
+    put(b". record ");
     io::print_decimal(1, record_of(ids, place));
-    io::write_all(1, b" at ");
+    put(b" at ");
     decimal::print_float(bits);
-    io::write_all(1, b"\n");
+    put(b"\n");
 }
 
 fn print_all(ids: &[u8], given: &[u8], n: usize)
-    requires { ⌜ 8 * n ≤ length (now given) ⌝ }
+    requires { ⌜ 16 * n ≤ length (now given) ⌝ }
 {
     let mut i = 0usize;
     while i < n {
-        let at = 8 * i;
+        let at = 16 * i;
         print_given(
             ids,
             i as u64 + 1,
-            words::u32_at(given, at),
             words::u32_at(given, at + 4),
+            words::u32_at(given, at + 8),
         );
         i += 1;
     }
@@ -152,13 +170,13 @@ fn waiting(marks: &[u8]) -> usize {
 
 fn print_tally(candidates: usize, given: usize, read: usize, spared: usize) {
     io::print_decimal(1, given as u64);
-    io::write_all(1, b" of ");
+    put(b" of ");
     io::print_decimal(1, candidates as u64);
-    io::write_all(1, b" candidates given, ");
+    put(b" candidates given, ");
     io::print_decimal(1, read as u64);
-    io::write_all(1, b" distances read, ");
+    put(b" distances read, ");
     io::print_decimal(1, spared as u64);
-    io::write_all(1, b" spared\n");
+    put(b" spared\n");
 }
 
 // How many candidates were given, how many distances read, and how it ended.
@@ -168,7 +186,8 @@ pub struct Ranked {
     pub outcome: Outcome,
 }
 
-// Calls the reranker until as many as wanted are given. A list of n takes n distances and n gives.
+// Calls the reranker until as many as wanted are given. A list of n takes n distances and n gives. Given has the 16 bytes of each
+// answer that gives a candidate.
 fn give(
     fd: i32,
     wanted: usize,
@@ -178,7 +197,7 @@ fn give(
     marks: &mut [u8],
     given: &mut [u8],
 ) -> Ranked
-    requires { ⌜ (8 * wanted ≤ length (now given)) × (length (now marks) ≤ mostPlaces) ⌝ }
+    requires { ⌜ (16 * wanted ≤ length (now given)) × (length (now marks) ≤ mostPlaces) ⌝ }
     ensures { λ r. ⌜ r .given ≤ wanted ⌝ }
 {
     let turns = 2 * marks.len();
@@ -189,20 +208,21 @@ fn give(
         if g == wanted {
             break;
         }
-        let at = 8 * g;
-        let end = at + 8;
-        let s = turn(fd, ids, bounds, distances, marks, &mut given[at..end]);
-        if s.read {
-            r += 1;
-        } else if s.given {
-            g += 1;
-        } else {
-            let o = s.outcome;
-            return Ranked {
-                given: g,
-                read: r,
-                outcome: o,
-            };
+        let s = turn_at(fd, ids, bounds, distances, marks, given, g);
+        match s {
+            Step::Read => {
+                r += 1;
+            }
+            Step::Given => {
+                g += 1;
+            }
+            Step::End(o) => {
+                return Ranked {
+                    given: g,
+                    read: r,
+                    outcome: o,
+                };
+            }
         }
         t += 1;
     }
@@ -252,7 +272,7 @@ fn answer(
     requires { ⌜ length (now marks) ≤ mostPlaces ⌝ }
 {
     let n = marks.len();
-    let mut given = [0u8; 32768];
+    let mut given = [0u8; 65536];
     let got = give(
         fd,
         least(wanted, n),

@@ -13,29 +13,6 @@ use crate::header::Header;
 // The records are blocks: the layout's number.
 const BLOCKS: u32 = 2;
 
-// A walk over no record at all judges what doesn't depend on one: the metric, the dims and the query.
-pub fn judge(h: Header, query: &[u8]) -> u32 {
-    let mut ids = [0u8; 0];
-    let mut bounds = [0u8; 0];
-    let mut marks = [0u8; 0];
-    let mut count = [0u8; 4];
-    walk::walk(
-        h.metric,
-        BLOCKS,
-        h.dims,
-        h.v,
-        query,
-        b"",
-        0,
-        0,
-        0,
-        &mut ids,
-        &mut bounds,
-        &mut marks,
-        &mut count,
-    )
-}
-
 // How many records the block after the first `have` has: 32, or those that are left.
 fn records_in(have: u32, n: u32) -> u32
     requires { ⌜ have < n ⌝ }
@@ -85,7 +62,45 @@ fn walk_block(
     )
 }
 
-// The next block: its m records become the candidates after the first `have`. Where the lists have too few places, the walk refuses.
+// A walk over no record at all judges what doesn't depend on one: the metric, the dims and the query.
+pub fn judge(h: Header, query: &[u8]) -> u32 {
+    let mut ids = [0u8; 0];
+    let mut bounds = [0u8; 0];
+    let mut marks = [0u8; 0];
+    walk_block(h, query, b"", 0, &mut ids, &mut bounds, &mut marks)
+}
+
+// The walk of a block whose m records become the candidates after the first `have`. Where the lists have too few places, it refuses.
+fn walk_on(
+    h: Header,
+    query: &[u8],
+    block: &[u8],
+    have: u32,
+    m: u32,
+    ids: &mut [u8],
+    bounds: &mut [u8],
+    marks: &mut [u8],
+) -> u32
+    requires { ⌜ (have ≤ mostPlaces) × (have + m < 2 ^ 32) ⌝ }
+    requires { ⌜ (length (now ids) ≡ 16384) × (length (now bounds) ≡ 16384) × (length (now marks) ≡ mostPlaces) ⌝ }
+    ensures { λ r. ⌜ (r ≡ 0 → have + m ≤ mostPlaces) ⌝ }
+{
+    let from = have as usize;
+    let to = places_end(have, m);
+    let from4 = 4 * from;
+    let to4 = 4 * to;
+    walk_block(
+        h,
+        query,
+        block,
+        m,
+        &mut ids[from4..to4],
+        &mut bounds[from4..to4],
+        &mut marks[from..to],
+    )
+}
+
+// The next block, read and walked.
 fn next_block(
     fd: i32,
     h: Header,
@@ -104,19 +119,7 @@ fn next_block(
     if io::read_full(fd, block) < block.len() {
         return Outcome::Stop(Fault::ShortBlock(have));
     }
-    let from = have as usize;
-    let to = places_end(have, m);
-    let from4 = 4 * from;
-    let to4 = 4 * to;
-    let refused = walk_block(
-        h,
-        query,
-        block,
-        m,
-        &mut ids[from4..to4],
-        &mut bounds[from4..to4],
-        &mut marks[from..to],
-    );
+    let refused = walk_on(h, query, block, have, m, ids, bounds, marks);
     if refused != 0 {
         return Outcome::Stop(Fault::Block(have, refused));
     }

@@ -1,4 +1,7 @@
 // The calls of include/lintelkite.h, in the header's order.
+ghost use Prim.Native.Nat.{_≤_};
+ghost use lib.ListN.{length};
+use crate::line;
 use crate::line::float;
 use crate::line::number;
 
@@ -38,117 +41,54 @@ pub fn shape_of(which: usize) -> Shape {
     }
 }
 
-// The number of a call by its name, and COUNT where there is no such call.
-pub fn which(name: &[u8]) -> usize {
-    if check::same(name, b"digits_size") {
-        return 0;
+// Where name k starts, and the end where there is none. A space stands after each name.
+fn start_of(names: &[u8], k: usize) -> usize
+    ensures { λ r. ⌜ r ≤ length (now (names .entry)) ⌝ }
+{
+    let mut left = k;
+    let mut i = 0usize;
+    while i < names.len() {
+        if left == 0 {
+            return i;
+        }
+        if names[i] == b' ' {
+            left -= 1;
+        }
+        i += 1;
     }
-    if check::same(name, b"code_size") {
-        return 1;
-    }
-    if check::same(name, b"block_size") {
-        return 2;
-    }
-    if check::same(name, b"digits_pack") {
-        return 3;
-    }
-    if check::same(name, b"digits_read") {
-        return 4;
-    }
-    if check::same(name, b"scalar_encode") {
-        return 5;
-    }
-    if check::same(name, b"scalar_table") {
-        return 6;
-    }
-    if check::same(name, b"scalar_distance") {
-        return 7;
-    }
-    if check::same(name, b"root") {
-        return 8;
-    }
-    if check::same(name, b"code_encode") {
-        return 9;
-    }
-    if check::same(name, b"code_bit") {
-        return 10;
-    }
-    if check::same(name, b"block_pack") {
-        return 11;
-    }
-    if check::same(name, b"block_lane") {
-        return 12;
-    }
-    if check::same(name, b"query_sum") {
-        return 13;
-    }
-    if check::same(name, b"code_sum") {
-        return 14;
-    }
-    if check::same(name, b"block_sums") {
-        return 15;
-    }
-    if check::same(name, b"code_rough") {
-        return 16;
-    }
-    if check::same(name, b"code_lower_bound") {
-        return 17;
-    }
-    if check::same(name, b"block_rough") {
-        return 18;
-    }
-    if check::same(name, b"block_lower_bounds") {
-        return 19;
-    }
-    if check::same(name, b"walk") {
-        return 20;
-    }
-    if check::same(name, b"rerank_next") {
-        return 21;
-    }
-    if check::same(name, b"rerank_supply") {
-        return 22;
-    }
-    COUNT
+    i
 }
 
-pub fn print_name(which: usize) {
-    match which {
-        0 => io::write_all(1, b"digits_size"),
-        1 => io::write_all(1, b"code_size"),
-        2 => io::write_all(1, b"block_size"),
-        3 => io::write_all(1, b"digits_pack"),
-        4 => io::write_all(1, b"digits_read"),
-        5 => io::write_all(1, b"scalar_encode"),
-        6 => io::write_all(1, b"scalar_table"),
-        7 => io::write_all(1, b"scalar_distance"),
-        8 => io::write_all(1, b"root"),
-        9 => io::write_all(1, b"code_encode"),
-        10 => io::write_all(1, b"code_bit"),
-        11 => io::write_all(1, b"block_pack"),
-        12 => io::write_all(1, b"block_lane"),
-        13 => io::write_all(1, b"query_sum"),
-        14 => io::write_all(1, b"code_sum"),
-        15 => io::write_all(1, b"block_sums"),
-        16 => io::write_all(1, b"code_rough"),
-        17 => io::write_all(1, b"code_lower_bound"),
-        18 => io::write_all(1, b"block_rough"),
-        19 => io::write_all(1, b"block_lower_bounds"),
-        20 => io::write_all(1, b"walk"),
-        21 => io::write_all(1, b"rerank_next"),
-        22 => io::write_all(1, b"rerank_supply"),
-        _ => true,
+fn name_at(names: &[u8], k: usize) -> &[u8] {
+    let from = start_of(names, k);
+    line::name(&names[from..])
+}
+
+// The number of a call by its name, and COUNT where there is no such call.
+pub fn which(names: &[u8], name: &[u8]) -> usize {
+    let mut k = 0usize;
+    while k < COUNT {
+        if check::same(name_at(names, k), name) {
+            return k;
+        }
+        k += 1;
     }
-    ;
+    k
+}
+
+pub fn print_name(names: &[u8], which: usize) {
+    io::write_all(1, name_at(names, which));
 }
 
 fn call_digits(which: usize, line: &[u8], b0: &mut [u8], b1: &mut [u8]) -> u32 {
+    let x = number(line, 0);
+    let y = number(line, 1);
     match which {
-        0 => lintelkite::lk_digits_size(number(line, 0), number(line, 1), b0),
-        1 => lintelkite::lk_code_size(number(line, 0), b0),
-        2 => lintelkite::lk_block_size(number(line, 0), b0),
-        3 => lintelkite::lk_digits_pack(number(line, 0), number(line, 1), b0, b1),
-        _ => lintelkite::lk_digits_read(number(line, 0), number(line, 1), b0, number(line, 2), b1),
+        0 => lintelkite::lk_digits_size(x, y, b0),
+        1 => lintelkite::lk_code_size(x, b0),
+        2 => lintelkite::lk_block_size(x, b0),
+        3 => lintelkite::lk_digits_pack(x, y, b0, b1),
+        _ => lintelkite::lk_digits_read(x, y, b0, number(line, 2), b1),
     }
 }
 
@@ -160,25 +100,12 @@ fn call_scalar(
     b2: &mut [u8],
     b3: &mut [u8],
 ) -> u32 {
+    let x = number(line, 0);
+    let y = number(line, 1);
     match which {
-        5 => lintelkite::lk_scalar_encode(number(line, 0), number(line, 1), b0, b1, b2, b3),
-        6 => lintelkite::lk_scalar_table(
-            number(line, 0),
-            number(line, 1),
-            number(line, 2),
-            b0,
-            b1,
-            b2,
-            b3,
-        ),
-        7 => lintelkite::lk_scalar_distance(
-            number(line, 0),
-            number(line, 1),
-            number(line, 2),
-            b0,
-            b1,
-            b2,
-        ),
+        5 => lintelkite::lk_scalar_encode(x, y, b0, b1, b2, b3),
+        6 => lintelkite::lk_scalar_table(x, y, number(line, 2), b0, b1, b2, b3),
+        7 => lintelkite::lk_scalar_distance(x, y, number(line, 2), b0, b1, b2),
         _ => lintelkite::lk_root(float(line, 0), b0),
     }
 }
@@ -201,48 +128,70 @@ fn call_sums(which: usize, line: &[u8], b0: &[u8], b1: &mut [u8], b2: &mut [u8])
 }
 
 fn call_estimates(which: usize, line: &[u8], b0: &[u8], b1: &[u8], b2: &mut [u8]) -> u32 {
+    let metric = number(line, 0);
+    let dims = number(line, 1);
+    let d = float(line, 2);
+    let b = float(line, 3);
+    let k = float(line, 4);
     match which {
-        16 => lintelkite::lk_code_rough(
-            number(line, 0),
-            number(line, 1),
-            float(line, 2),
-            float(line, 3),
-            float(line, 4),
-            b0,
-            b1,
-            b2,
-        ),
-        17 => lintelkite::lk_code_lower_bound(
-            number(line, 0),
-            number(line, 1),
-            float(line, 2),
-            float(line, 3),
-            float(line, 4),
-            b0,
-            b1,
-            b2,
-        ),
-        18 => lintelkite::lk_block_rough(
-            number(line, 0),
-            number(line, 1),
-            float(line, 2),
-            float(line, 3),
-            float(line, 4),
-            b0,
-            b1,
-            b2,
-        ),
-        _ => lintelkite::lk_block_lower_bounds(
-            number(line, 0),
-            number(line, 1),
-            float(line, 2),
-            float(line, 3),
-            float(line, 4),
-            b0,
-            b1,
-            b2,
-        ),
+        16 => lintelkite::lk_code_rough(metric, dims, d, b, k, b0, b1, b2),
+        17 => lintelkite::lk_code_lower_bound(metric, dims, d, b, k, b0, b1, b2),
+        18 => lintelkite::lk_block_rough(metric, dims, d, b, k, b0, b1, b2),
+        _ => lintelkite::lk_block_lower_bounds(metric, dims, d, b, k, b0, b1, b2),
     }
+}
+
+fn call_walk(
+    line: &[u8],
+    b0: &[u8],
+    b1: &[u8],
+    b2: &mut [u8],
+    b3: &mut [u8],
+    b4: &mut [u8],
+    b5: &mut [u8],
+) -> u32 {
+    lintelkite::lk_walk(
+        number(line, 0),
+        number(line, 1),
+        number(line, 2),
+        float(line, 3),
+        float(line, 4),
+        float(line, 5),
+        b0,
+        b1,
+        number(line, 6),
+        number(line, 7),
+        number(line, 8),
+        b2,
+        b3,
+        b4,
+        b5,
+    )
+}
+
+fn call_rerank(
+    which: usize,
+    line: &[u8],
+    b0: &[u8],
+    b1: &mut [u8],
+    b2: &mut [u8],
+    b3: &mut [u8],
+) -> u32 {
+    if which == 21 {
+        return lintelkite::lk_rerank_next(b0, b1, b2, b3);
+    }
+    lintelkite::lk_rerank_supply(b0, b1, b2, number(line, 0), float(line, 1), b3)
+}
+
+// The calls that take at most three buffers, after those of digits and scalars.
+fn call_middle(which: usize, line: &[u8], b0: &[u8], b1: &mut [u8], b2: &mut [u8]) -> u32 {
+    if which < 13 {
+        return call_codes(which, line, b0, b1, b2);
+    }
+    if which < 16 {
+        return call_sums(which, line, b0, b1, b2);
+    }
+    call_estimates(which, line, b0, b1, b2)
 }
 
 // The call, on the line's numbers and these buffers: what it returns.
@@ -262,36 +211,11 @@ pub fn call(
     if which < 9 {
         return call_scalar(which, line, b0, b1, b2, b3);
     }
-    if which < 13 {
-        return call_codes(which, line, b0, b1, b2);
-    }
-    if which < 16 {
-        return call_sums(which, line, b0, b1, b2);
-    }
     if which < 20 {
-        return call_estimates(which, line, b0, b1, b2);
+        return call_middle(which, line, b0, b1, b2);
     }
     if which == 20 {
-        return lintelkite::lk_walk(
-            number(line, 0),
-            number(line, 1),
-            number(line, 2),
-            float(line, 3),
-            float(line, 4),
-            float(line, 5),
-            b0,
-            b1,
-            number(line, 6),
-            number(line, 7),
-            number(line, 8),
-            b2,
-            b3,
-            b4,
-            b5,
-        );
+        return call_walk(line, b0, b1, b2, b3, b4, b5);
     }
-    if which == 21 {
-        return lintelkite::lk_rerank_next(b0, b1, b2, b3);
-    }
-    lintelkite::lk_rerank_supply(b0, b1, b2, number(line, 0), float(line, 1), b3)
+    call_rerank(which, line, b0, b1, b2, b3)
 }

@@ -260,7 +260,7 @@ fn compared(
     AGREES
 }
 
-fn with_buffers(
+fn with_six(
     which: usize,
     line: &[u8],
     s: calls::Shape,
@@ -275,7 +275,40 @@ fn with_buffers(
     compared(line, s, got, b0, b1, b2, b3, b4, b5)
 }
 
-// The line's call is made and compared.
+fn with_four(
+    which: usize,
+    line: &[u8],
+    s: calls::Shape,
+    b0: &mut [u8],
+    b1: &mut [u8],
+    b2: &mut [u8],
+    b3: &mut [u8],
+) -> u8 {
+    let mut b4 = [0u8; 40000];
+    let mut b5 = [0u8; 40000];
+    let n4 = buffer(line, 4, &mut b4);
+    let n5 = buffer(line, 5, &mut b5);
+    with_six(which, line, s, b0, b1, b2, b3, &mut b4[..n4], &mut b5[..n5])
+}
+
+fn with_two(which: usize, line: &[u8], s: calls::Shape, b0: &mut [u8], b1: &mut [u8]) -> u8 {
+    let mut b2 = [0u8; 40000];
+    let mut b3 = [0u8; 40000];
+    let n2 = buffer(line, 2, &mut b2);
+    let n3 = buffer(line, 3, &mut b3);
+    with_four(which, line, s, b0, b1, &mut b2[..n2], &mut b3[..n3])
+}
+
+// The buffers are read two by two, and the line's call is made and compared.
+fn with_none(which: usize, line: &[u8], s: calls::Shape) -> u8 {
+    let mut b0 = [0u8; 40000];
+    let mut b1 = [0u8; 40000];
+    let n0 = buffer(line, 0, &mut b0);
+    let n1 = buffer(line, 1, &mut b1);
+    with_two(which, line, s, &mut b0[..n0], &mut b1[..n1])
+}
+
+// What comes of the line.
 pub fn replay(which: usize, line: &[u8]) -> u8 {
     if calls::COUNT <= which {
         return DAMAGED;
@@ -287,27 +320,5 @@ pub fn replay(which: usize, line: &[u8]) -> u8 {
     if too_long(line) {
         return TOO_LONG;
     }
-    let mut b0 = [0u8; 40000];
-    let mut b1 = [0u8; 40000];
-    let mut b2 = [0u8; 40000];
-    let mut b3 = [0u8; 40000];
-    let mut b4 = [0u8; 40000];
-    let mut b5 = [0u8; 40000];
-    let n0 = buffer(line, 0, &mut b0);
-    let n1 = buffer(line, 1, &mut b1);
-    let n2 = buffer(line, 2, &mut b2);
-    let n3 = buffer(line, 3, &mut b3);
-    let n4 = buffer(line, 4, &mut b4);
-    let n5 = buffer(line, 5, &mut b5);
-    with_buffers(
-        which,
-        line,
-        s,
-        &mut b0[..n0],
-        &mut b1[..n1],
-        &mut b2[..n2],
-        &mut b3[..n3],
-        &mut b4[..n4],
-        &mut b5[..n5],
-    )
+    with_none(which, line, s)
 }

@@ -54,14 +54,14 @@ fn say_wrong(verdict: u8, at: u64) {
 }
 
 // One line: its call is counted, and counted as agreeing if it does.
-fn one(text: &[u8], at: u64, seen: &mut [u64], agreed: &mut [u64]) {
+fn one(names: &[u8], text: &[u8], at: u64, seen: &mut [u64], agreed: &mut [u64]) {
     if text.len() == 0 {
         return;
     }
     if text[0] == b'#' {
         return;
     }
-    let which = calls::which(line::name(text));
+    let which = calls::which(names, line::name(text));
     let verdict = line::replay(which, text);
     count_at(seen, which);
     if verdict == line::AGREES {
@@ -71,21 +71,21 @@ fn one(text: &[u8], at: u64, seen: &mut [u64], agreed: &mut [u64]) {
     }
 }
 
-fn all(text: &[u8], seen: &mut [u64], agreed: &mut [u64]) {
+fn all(names: &[u8], text: &[u8], seen: &mut [u64], agreed: &mut [u64]) {
     let mut from = 0usize;
     let mut at: u64 = 1;
     while from < text.len() {
         let to = line_end(text, from);
-        one(&text[from..to], at, seen, agreed);
+        one(names, &text[from..to], at, seen, agreed);
         from = to + 1;
         at = more(at);
     }
 }
 
-fn print_tally(which: usize, seen: &[u64], agreed: &[u64]) {
+fn print_tally(names: &[u8], which: usize, seen: &[u64], agreed: &[u64]) {
     if which < seen.len() {
         if which < agreed.len() {
-            calls::print_name(which);
+            calls::print_name(names, which);
             io::write_all(1, b": ");
             io::print_decimal(1, agreed[which]);
             io::write_all(1, b" of ");
@@ -95,9 +95,9 @@ fn print_tally(which: usize, seen: &[u64], agreed: &[u64]) {
     }
 }
 
-fn print_tallies(seen: &[u64], agreed: &[u64]) {
+fn print_tallies(names: &[u8], seen: &[u64], agreed: &[u64]) {
     for which in 0usize..calls::COUNT {
-        print_tally(which, seen, agreed);
+        print_tally(names, which, seen, agreed);
     }
 }
 
@@ -108,7 +108,7 @@ fn room() -> [u8; 262144]
     [0; 262144]
 }
 
-fn read_and_replay(fd: i32) {
+fn read_and_replay(fd: i32, names: &[u8]) {
     let mut text = room();
     let n = io::read_full(fd, &mut text);
     if n == MOST_TEXT {
@@ -117,8 +117,16 @@ fn read_and_replay(fd: i32) {
     }
     let mut seen = [0u64; calls::COUNT];
     let mut agreed = [0u64; calls::COUNT];
-    all(&text[..n], &mut seen, &mut agreed);
-    print_tallies(&seen, &agreed);
+    all(names, &text[..n], &mut seen, &mut agreed);
+    print_tallies(names, &seen, &agreed);
+}
+
+// The names of the calls in the order of their numbers, with a space after each.
+fn with_names(fd: i32) {
+    read_and_replay(
+        fd,
+        b"digits_size code_size block_size digits_pack digits_read scalar_encode scalar_table scalar_distance root code_encode code_bit block_pack block_lane query_sum code_sum block_sums code_rough code_lower_bound block_rough block_lower_bounds walk rerank_next rerank_supply ",
+    );
 }
 
 fn main() {
@@ -133,6 +141,6 @@ fn main() {
         io::write_all(1, b"the list can't be opened\n");
         return;
     }
-    read_and_replay(fd);
+    with_names(fd);
     libc::close(fd);
 }

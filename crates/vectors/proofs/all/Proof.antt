@@ -7,10 +7,10 @@ use Rattle.vectors.proofs.all.Statement.{statement}
 use Rattle.vectors.proofs.all.Tie as tie
 
 abbrev Inv-loop : tie.InvT-loop
-Inv-loop text seen₀ agreed₀ from₀ at₀ seen agreed from at = (from ≤ length text + 1) × (length seen ≡ length seen₀) × (length agreed ≡ length agreed₀)
+Inv-loop names text seen₀ agreed₀ from₀ at₀ seen agreed from at = (from ≤ length text + 1) × (length seen ≡ length seen₀) × (length agreed ≡ length agreed₀)
 
 abbrev μ-loop : tie.MeasureT-loop
-μ-loop text seen₀ agreed₀ from₀ at₀ seen agreed from at = length text + 1 - from
+μ-loop names text seen₀ agreed₀ from₀ at₀ seen agreed from at = length text + 1 - from
 
 loop-holds : tie.Need-loop-holds Inv-loop μ-loop
 loop-holds c = search needs

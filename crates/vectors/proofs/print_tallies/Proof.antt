@@ -5,10 +5,10 @@ use Rattle.vectors.proofs.print_tallies.Statement.{statement}
 use Rattle.vectors.proofs.print_tallies.Tie as tie
 
 abbrev Inv-loop : tie.InvT-loop
-Inv-loop seen agreed which₀ which = which ≤ 23
+Inv-loop names seen agreed which₀ which = which ≤ 23
 
 abbrev μ-loop : tie.MeasureT-loop
-μ-loop seen agreed which₀ which = 23 - which
+μ-loop names seen agreed which₀ which = 23 - which
 
 loop-holds : tie.Need-loop-holds Inv-loop μ-loop
 loop-holds c = search needs

@@ -32,11 +32,11 @@ sub-print-split c = search needs
 print-split-requires : tie.Need-print-split-requires
 print-split-requires c κs = search needs
 
-slice-aggregate-write-all : tie.Need-slice-aggregate-write-all
-slice-aggregate-write-all c = search needs
+slice-aggregate-put : tie.Need-slice-aggregate-put
+slice-aggregate-put c = search needs
 
-write-all-requires : tie.Need-write-all-requires
-write-all-requires c κs = search needs
+put-requires : tie.Need-put-requires
+put-requires c κs = search needs
 
 slice-aggregate-print-scaled-2 : tie.Need-slice-aggregate-print-scaled-2
 slice-aggregate-print-scaled-2 c = search needs
@@ -74,8 +74,8 @@ print-magnitude-spec =
     print-decimal-requires
     sub-print-split
     print-split-requires
-    slice-aggregate-write-all
-    write-all-requires
+    slice-aggregate-put
+    put-requires
     slice-aggregate-print-scaled-2
     sub-print-scaled-2
     print-scaled-requires-2

@@ -19,11 +19,14 @@ mul-at c = search needs
 add-print-given : tie.Need-add-print-given Inv-loop μ-loop
 add-print-given c = search needs
 
+add-u32-at : tie.Need-add-u32-at Inv-loop μ-loop
+add-u32-at c = search needs
+
 u32-at-requires : tie.Need-u32-at-requires Inv-loop μ-loop
 u32-at-requires c κs = search needs
 
-add-u32-at : tie.Need-add-u32-at Inv-loop μ-loop
-add-u32-at c = search needs
+add-u32-at-2 : tie.Need-add-u32-at-2 Inv-loop μ-loop
+add-u32-at-2 c = search needs
 
 u32-at-requires-2 : tie.Need-u32-at-requires-2 Inv-loop μ-loop
 u32-at-requires-2 c κs = search needs
@@ -52,8 +55,9 @@ print-all-spec =
     loop-holds
     mul-at
     add-print-given
-    u32-at-requires
     add-u32-at
+    u32-at-requires
+    add-u32-at-2
     u32-at-requires-2
     print-given-requires
     add-i

@@ -2,8 +2,6 @@
 use mathlib.Core.Bool.{true}
 use mathlib.Core.Path.{refl}
 use Rattle.cabinet_job.proofs.StopLaws.{clash}
-use Prim.Native.Nat.{ℕ}
-use native.Mathlib.Omega.{arith}
 use borrow.Author.Needs.{needs}
 use Rattle.cabinet_job.proofs.records.next_block.Statement.{statement}
 use Rattle.cabinet_job.proofs.records.next_block.Tie as tie
@@ -17,44 +15,8 @@ same-length c = search needs
 returns : tie.Need-returns
 returns c = λ e. clash true true refl refl e
 
-places-end-requires : tie.Need-places-end-requires
-places-end-requires c κs = search needs
-
-mul-from4 : tie.Need-mul-from4
-mul-from4 c = search needs
-
-mul-to4 : tie.Need-mul-to4
-mul-to4 c = search needs
-
-sub-walk-block : tie.Need-sub-walk-block
-sub-walk-block c = search needs
-
-part-walk-block-start : tie.Need-part-walk-block-start
-part-walk-block-start c = search needs
-
-part-walk-block-end : tie.Need-part-walk-block-end
-part-walk-block-end c = search needs
-
-sub-walk-block-2 : tie.Need-sub-walk-block-2
-sub-walk-block-2 c = search needs
-
-part-walk-block-start-2 : tie.Need-part-walk-block-start-2
-part-walk-block-start-2 c = search needs
-
-part-walk-block-end-2 : tie.Need-part-walk-block-end-2
-part-walk-block-end-2 c = search needs
-
-sub-walk-block-3 : tie.Need-sub-walk-block-3
-sub-walk-block-3 c = search needs
-
-part-walk-block-start-3 : tie.Need-part-walk-block-start-3
-part-walk-block-start-3 c = search needs
-
-part-walk-block-end-3 : tie.Need-part-walk-block-end-3
-part-walk-block-end-3 c = search needs
-
-walk-block-requires : tie.Need-walk-block-requires
-walk-block-requires c κs = search needs
+walk-on-requires : tie.Need-walk-on-requires
+walk-on-requires c κs = search needs
 
 same-length-2 : tie.Need-same-length-2
 same-length-2 c = search needs
@@ -84,7 +46,7 @@ same-length-9 : tie.Need-same-length-9
 same-length-9 c = search needs
 
 returns-3 : tie.Need-returns-3
-returns-3 c = λ e. omega (arith, c .before .before .before .before .before .before .before .walk-block .ensures (search needs))
+returns-3 c = λ e. c .before .before .before .before .before .before .before .walk-on .ensures (search needs)
 
 pub next-block-spec : {M : Type 1} → statement M
 next-block-spec =
@@ -93,19 +55,7 @@ next-block-spec =
     read-full-requires
     same-length
     returns
-    places-end-requires
-    mul-from4
-    mul-to4
-    sub-walk-block
-    part-walk-block-start
-    part-walk-block-end
-    sub-walk-block-2
-    part-walk-block-start-2
-    part-walk-block-end-2
-    sub-walk-block-3
-    part-walk-block-start-3
-    part-walk-block-end-3
-    walk-block-requires
+    walk-on-requires
     same-length-2
     same-length-3
     same-length-4

@@ -13,7 +13,7 @@ wide-sums-requires : tie.Need-wide-sums-requires
 wide-sums-requires c κs = search needs
 
 returns : tie.Need-returns
-returns c = search needs
+returns c = c .before .wide-sums .ensures
 
 slice-aggregate-wide-sums-2 : tie.Need-slice-aggregate-wide-sums-2
 slice-aggregate-wide-sums-2 c = search needs
@@ -22,7 +22,7 @@ wide-sums-requires-2 : tie.Need-wide-sums-requires-2
 wide-sums-requires-2 c κs = search needs
 
 returns-2 : tie.Need-returns-2
-returns-2 c = search needs
+returns-2 c = c .before .wide-sums2 .ensures
 
 slice-aggregate-wide-sums-3 : tie.Need-slice-aggregate-wide-sums-3
 slice-aggregate-wide-sums-3 c = search needs
@@ -33,7 +33,7 @@ wide-sums-requires-3 c κs =
     (a .0, a .1, omega (arith, a .0 .few, length-replicate {A = ℕ} 69952 0))
 
 returns-3 : tie.Need-returns-3
-returns-3 c = search needs
+returns-3 c = c .before .wide-sums3 .ensures
 
 pub block-sums-spec : {M : Type 1} → statement M
 block-sums-spec =

@@ -1,0 +1,50 @@
+-- `vectors::calls::which` meets its contract. One name a turn. Assumes nothing.
+use Prim.Native.Nat.{_≤_, _-_}
+use borrow.Author.Needs.{needs}
+use Rattle.vectors.proofs.calls.which.Statement.{statement}
+use Rattle.vectors.proofs.calls.which.Tie as tie
+
+abbrev Inv-loop : tie.InvT-loop
+Inv-loop names name k₀ k = k ≤ 23
+
+abbrev μ-loop : tie.MeasureT-loop
+μ-loop names name k₀ k = 23 - k
+
+loop-holds : tie.Need-loop-holds Inv-loop μ-loop
+loop-holds c = search needs
+
+name-at-requires : tie.Need-name-at-requires Inv-loop μ-loop
+name-at-requires c κs = search needs
+
+same-requires : tie.Need-same-requires Inv-loop μ-loop
+same-requires c κs = search needs
+
+returns : tie.Need-returns Inv-loop μ-loop
+returns c = search needs
+
+add-k : tie.Need-add-k Inv-loop μ-loop
+add-k c = search needs
+
+loop-less : tie.Need-loop-less Inv-loop μ-loop
+loop-less c = search needs
+
+loop-again : tie.Need-loop-again Inv-loop μ-loop
+loop-again c = search needs
+
+returns-2 : tie.Need-returns-2 Inv-loop μ-loop
+returns-2 c = search needs
+
+pub which-spec : {M : Type 1} → statement M
+which-spec =
+    tie.close
+    (tie.spec
+    Inv-loop
+    μ-loop
+    loop-holds
+    name-at-requires
+    same-requires
+    returns
+    add-k
+    loop-less
+    loop-again
+    returns-2)

@@ -119,10 +119,12 @@ byte-of dims b g j = refl
 
 -- ---- the round trip
 
-pub lane-of-packed : (dims : ℕ) (codes : List ℕ) (k : ℕ) → k < 32 → laneCode dims (packedBlock dims codes) k ≡ clearedCode dims (recordOf (codeSize dims) codes k)
+pub lane-of-packed : (dims : ℕ) (codes : List ℕ) (k : ℕ) → k < 32
+    → laneCode dims (packedBlock dims codes) k ≡ clearedCode dims (recordOf (codeSize dims) codes k)
 unfolding laneCode packedBlock packedBlockByte blockOf clearedCode
 lane-of-packed dims codes k h =
-    code-ext dims (laneFactor (packedBlock dims codes) k) (λ i. getD (recordOf (codeSize dims) codes k) i 0) (laneBit (packedBlock dims codes) k) (codeBit (recordOf (codeSize dims) codes k))
+    code-ext dims (laneFactor (packedBlock dims codes) k) (λ i. getD (recordOf (codeSize dims) codes k) i 0)
+    (laneBit (packedBlock dims codes) k) (codeBit (recordOf (codeSize dims) codes k))
     (λ i l. factor-of-block dims factors bits k i h l) (λ d l. bit-of-block dims factors bits (λ k d. code-bit-lt (recordOf (codeSize dims) codes k) d) k d h l)
   where
     factors : ℕ → ℕ → ℕ

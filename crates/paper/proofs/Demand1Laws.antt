@@ -180,7 +180,8 @@ demand-1 =
           let number = walks.walkNumber metric layout dims v query records n start end ids bounds marks count in
           record {
             listed = joint _ _
-                (queried dims (walks.badLengths layout dims n (length records) (walks.badLists (length ids) (length bounds) (length marks) (length count))) v query
+                (queried dims
+                (walks.badLengths layout dims n (length records) (walks.badLists (length ids) (length bounds) (length marks) (length count))) v query
                 (badForm metric || badForm layout) (at refl) (at refl) (at refl) (at refl) (at refl))
                 (joint _ _ (row (walks.outOfRange n start end) (at refl) (row (ltb (length marks) (end - start)) (at refl) (at refl)))
                 (row (anyBelow (end - start) (λ j. isNan (walks.boundOf (walks.layoutOf layout) (metricOf metric) v query records (start + j)))) (at refl)

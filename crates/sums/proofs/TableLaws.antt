@@ -92,7 +92,8 @@ table-of qs = record {
 }
 
 -- the lanes of a block
-pub scanned-plain : (qs t block : List ℕ) {s : List ℕ} → QueryCodes qs → Table qs t → Scanned t (drop 512 block) (blockGroups (length qs)) s → LaneSums qs block s
+pub scanned-plain : (qs t block : List ℕ) {s : List ℕ} → QueryCodes qs → Table qs t
+    → Scanned t (drop 512 block) (blockGroups (length qs)) s → LaneSums qs block s
 unfolding nibbleBit laneBit
 scanned-plain qs t block {s} q table held = record {
   sums = record { long = held .long; each = plain };

@@ -46,7 +46,8 @@ unfolding packedBlocks
 length-blocks dims codes count = length-joined (blockSize dims) count _ (λ i l. length-packed dims _)
 
 -- record k of the b-th 32 records
-code-of : (dims : ℕ) (codes : List ℕ) (b k : ℕ) → k < 32 → recordOf (codeSize dims) (recordOf (32 * codeSize dims) codes b) k ≡ recordOf (codeSize dims) codes (32 * b + k)
+code-of : (dims : ℕ) (codes : List ℕ) (b k : ℕ) → k < 32
+    → recordOf (codeSize dims) (recordOf (32 * codeSize dims) codes b) k ≡ recordOf (codeSize dims) codes (32 * b + k)
 unfolding recordOf
 code-of dims codes b k h =
     let s = codeSize dims in

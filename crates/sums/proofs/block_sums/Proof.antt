@@ -56,7 +56,8 @@ returns-3 : tie.Need-returns-3
 unfolding blockSumsAnswer
 returns-3 c =
     let e = c .before .before .before .before .before .before in
-    accepts _ _ _ _ (sym (number (e .before)) ∙ e .if2 .left) (c .before .before .put-sums .ensures ∙ words-ext 32 _ _ (c .before .before .before .before .before .block-sums .ensures .sums .each))
+    accepts _ _ _ _ (sym (number (e .before)) ∙ e .if2 .left)
+    (c .before .before .put-sums .ensures ∙ words-ext 32 _ _ (c .before .before .before .before .before .block-sums .ensures .sums .each))
 
 pub block-sums-spec : {M : Type 1} → statement M
 block-sums-spec =

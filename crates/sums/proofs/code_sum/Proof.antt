@@ -58,7 +58,8 @@ returns-3 : tie.Need-returns-3
 unfolding codeSumAnswer
 returns-3 c =
     let e = c .before .before .before .before .before .before .before in
-    accepts _ _ _ _ (sym (number (e .before)) ∙ e .if2 .left) (c .before .before .put-number .ensures ∙ ap (bytesOf 4) (c .before .before .before .before .code-sum .ensures))
+    accepts _ _ _ _ (sym (number (e .before)) ∙ e .if2 .left)
+    (c .before .before .put-number .ensures ∙ ap (bytesOf 4) (c .before .before .before .before .code-sum .ensures))
 
 pub code-sum-spec : {M : Type 1} → statement M
 code-sum-spec =

@@ -45,7 +45,8 @@ returns-3 : tie.Need-returns-3
 unfolding querySumAnswer
 returns-3 c =
     let e = c .before .before .before .before .before in
-    accepts _ _ _ _ (sym (number (e .before)) ∙ e .if2 .left) (c .before .before .put-number .ensures ∙ ap (bytesOf 4) (c .before .before .before .total .ensures .0))
+    accepts _ _ _ _ (sym (number (e .before)) ∙ e .if2 .left)
+    (c .before .before .put-number .ensures ∙ ap (bytesOf 4) (c .before .before .before .total .ensures .0))
 
 pub query-sum-spec : {M : Type 1} → statement M
 query-sum-spec =

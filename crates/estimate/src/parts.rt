@@ -152,8 +152,7 @@ fn other_lengths(rec: usize, size: usize, out: usize, room: usize) -> bool
     out != room
 }
 
-// The refusals 3 to 5 of a call on one record: given are the lengths of the record and of the buffer that is written, beside
-// those that they must have.
+// The same, of a call on one record: the lengths of the record and of the buffer that is written, beside those that they must have.
 pub fn record_refusal(
     metric: u32,
     dims: u32,

@@ -1,4 +1,4 @@
--- Laws of specs/Estimate and specs/Record: a sum as a float, the formulas case by case, tests for NaN. Assumes nothing.
+-- Laws of specs/Estimate, specs/Record and specs/Parts: a sum as a float, the formulas case by case, tests for NaN. Assumes nothing.
 use mathlib.Core.Path.{_≡_, refl, sym, ap, subst, _∙_}
 use mathlib.Core.Bool.{true, false, not}
 use Prim.Native.Nat.{ℕ, _+_, _*_, _≤_, _<_}

@@ -6,7 +6,7 @@ use Rattle.root.specs.Isqrt.{isqrt}
 use Rattle.root.specs.declared.Root.{Root}
 use Rattle.root.specs.declared.Root.the-variants.{Is, Missing}
 
--- The value of the format f that is nearest to √(num / den), for a den above 0. It has the shape of `round` of lib.Ieee.
+-- The value of the format f that is nearest to √(num / den), den above 0. It has the shape of `round` of lib.Ieee.
 -- In units of f's smallest value, 2 ^ -low, the root is √(n / den), and w is its whole part.
 -- Of w the format keeps the `prec` leading digits and drops k. So the result is q or q + 1 times 2 ^ k units, by how the root
 -- compares with (q + 1/2) * 2 ^ k, which is h / 2. Both are squared, and multiplied by 4 * den. At a tie it is the even one.

@@ -14,13 +14,13 @@ use Rattle.digits.specs.Digits.{bitsOf, isWidth, packedSize}
 use Rattle.digits.proofs.CallLaws.{Judged}
 use Rattle.scalar.specs.Code.{scalarCode}
 use Rattle.scalar.specs.Table.{tableBytes, tableSize, sumOf, distanceOf}
-use Rattle.scalar.specs.Parts.{Fine}
+use Rattle.scalar.specs.Parts.{FineVectors}
 use Rattle.scalar.specs.Calls.{badVectors, anyMissing, vectorsNumber}
 use Rattle.scalar.specs.Calls.{encodeNumber, encodeAnswer, tableNumber, tableAnswer, distanceNumber, distanceAnswer}
 use Rattle.scalar.proofs.ScalarLaws.{fine}
 
 -- what a call over vectors knows that the tests 3 to 5 don't refuse
-pub accepted : (dims : ℕ) (v lo hi : List ℕ) (other form : Bool) → vectorsNumber dims v lo hi other form ≡ 0 → Fine dims v lo hi × (other ≡ false)
+pub accepted : (dims : ℕ) (v lo hi : List ℕ) (other form : Bool) → vectorsNumber dims v lo hi other form ≡ 0 → FineVectors dims v lo hi × (other ≡ false)
 unfolding vectorsNumber
 accepted dims v lo hi other form e =
     let r3 = no-row (badVectors dims v lo hi || other) 2 _ e in

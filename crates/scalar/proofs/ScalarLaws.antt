@@ -25,7 +25,7 @@ use Rattle.digits.specs.Digits.{isWidth, levels, top, perByte, packedSize, pack
 use Rattle.digits.proofs.DigitLaws.{by-width, digit-from, full-byte, last-byte}
 use Rattle.scalar.specs.Code.{quotient, dimensionCode, codesOf, scalarCode}
 use Rattle.scalar.specs.Table.{rowBytes, addedTo, termAt}
-use Rattle.scalar.specs.Parts.{Fine}
+use Rattle.scalar.specs.Parts.{FineVectors}
 use Rattle.scalar.specs.Calls.{badVectors, anyMissing}
 use Rattle.scalar.proofs.RoundLaws.{code-le}
 
@@ -39,7 +39,7 @@ long-vectors dims v lo hi h =
     let q = neither (badLength v (4 * dims)) (badLength lo (4 * dims)) (p .0) in
     (length-is v (4 * dims) (q .0), length-is lo (4 * dims) (q .1), length-is hi (4 * dims) (p .1))
 
-pub fine : (dims : ℕ) (v lo hi : List ℕ) → badVectors dims v lo hi ≡ false → anyMissing dims v lo hi ≡ false → Fine dims v lo hi
+pub fine : (dims : ℕ) (v lo hi : List ℕ) → badVectors dims v lo hi ≡ false → anyMissing dims v lo hi ≡ false → FineVectors dims v lo hi
 unfolding anyMissing
 fine dims v lo hi h k =
     let l = long-vectors dims v lo hi h in

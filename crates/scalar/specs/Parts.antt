@@ -7,7 +7,7 @@ use lib.ListN.{length}
 use Rattle.words.specs.Floats.{missing}
 
 -- vectors that were judged: of the right lengths, and nothing missing in them
-pub record Fine (dims : ℕ) (vector lo hi : List ℕ) : Type 0 where
+pub record FineVectors (dims : ℕ) (vector lo hi : List ℕ) : Type 0 where
   pub vector-long : length vector ≡ 4 * dims
   pub lo-long : length lo ≡ 4 * dims
   pub hi-long : length hi ≡ 4 * dims

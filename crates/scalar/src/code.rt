@@ -10,7 +10,7 @@ ghost use Rattle.words.specs.Limits.{mostScalarDims};
 ghost use Rattle.digits.specs.Digits as d;
 ghost use Rattle.digits.specs.Digits.{bitsOf, isWidth, perByte, packedSize};
 ghost use Rattle.scalar.specs.Code.{delOf, roundedCode, dimensionCode, scalarCode};
-ghost use Rattle.scalar.specs.Parts.{Fine};
+ghost use Rattle.scalar.specs.Parts.{FineVectors};
 use digits::Width;
 
 // The top code of each width, in the byte that a code is.
@@ -57,7 +57,7 @@ pub fn del_of(top: u8, lo: f32, hi: f32) -> f32
 
 // The code of dimension i.
 fn code_at(top: u8, dims: usize, vector: &[u8], lo: &[u8], hi: &[u8], i: usize) -> u8
-    requires { ⌜ Fine dims (now vector) (now lo) (now hi) ⌝ ∗ ⌜ i < dims ⌝ }
+    requires { ⌜ FineVectors dims (now vector) (now lo) (now hi) ⌝ ∗ ⌜ i < dims ⌝ }
     ensures { λ r. ⌜ r ≡ dimensionCode top (now (vector .entry)) (now (lo .entry)) (now (hi .entry)) i ⌝ }
 {
     let x = words::number_at(vector, i);
@@ -77,7 +77,7 @@ fn join_at(
     hi: &[u8],
     at: usize,
 ) -> u8
-    requires { ⌜ Fine dims (now vector) (now lo) (now hi) ⌝ ∗ ⌜ (isWidth bits ≡ true) × (top ≡ d.top bits) × (n ≤ perByte bits) × (at + n ≤ dims) ⌝ }
+    requires { ⌜ FineVectors dims (now vector) (now lo) (now hi) ⌝ ∗ ⌜ (isWidth bits ≡ true) × (top ≡ d.top bits) × (n ≤ perByte bits) × (at + n ≤ dims) ⌝ }
     ensures { λ r. ⌜ r ≡ join bits n (λ j. dimensionCode top (now (vector .entry)) (now (lo .entry)) (now (hi .entry)) (at + j)) ⌝ }
 {
     let mut byte: u8 = 0;
@@ -101,7 +101,7 @@ fn encode_bits(
     hi: &[u8],
     out: &mut [u8],
 )
-    requires { ⌜ Fine dims (now vector) (now lo) (now hi) ⌝
+    requires { ⌜ FineVectors dims (now vector) (now lo) (now hi) ⌝
         ∗ ⌜ (isWidth bits ≡ true) × (per ≡ perByte bits) × (top ≡ d.top bits) × (dims ≤ mostScalarDims) × (length (now out) ≡ packedSize bits dims) ⌝ }
     ensures { λ r. ⌜ now (out .exit) ≡ scalarCode bits dims (now (vector .entry)) (now (lo .entry)) (now (hi .entry)) ⌝ }
 {
@@ -119,7 +119,7 @@ fn encode_bits(
 
 // The code of a vector.
 pub fn encode(w: Width, dims: usize, vector: &[u8], lo: &[u8], hi: &[u8], out: &mut [u8])
-    requires { ⌜ Fine dims (now vector) (now lo) (now hi) ⌝ ∗ ⌜ (dims ≤ mostScalarDims) × (length (now out) ≡ packedSize (bitsOf w) dims) ⌝ }
+    requires { ⌜ FineVectors dims (now vector) (now lo) (now hi) ⌝ ∗ ⌜ (dims ≤ mostScalarDims) × (length (now out) ≡ packedSize (bitsOf w) dims) ⌝ }
     ensures { λ r. ⌜ now (out .exit) ≡ scalarCode (bitsOf w) dims (now (vector .entry)) (now (lo .entry)) (now (hi .entry)) ⌝ }
 {
     match w {

@@ -9,7 +9,7 @@ ghost use Rattle.words.specs.Limits.{mostScalarDims};
 ghost use Rattle.digits.specs.Digits as d;
 ghost use Rattle.digits.specs.Digits.{bitsOf, isWidth, levels};
 ghost use Rattle.scalar.specs.Table.{apart, entryOf, rowBytes, tableBytes, tableSize};
-ghost use Rattle.scalar.specs.Parts.{Fine};
+ghost use Rattle.scalar.specs.Parts.{FineVectors};
 use crate::code::TOP_1;
 use crate::code::TOP_2;
 use crate::code::TOP_4;
@@ -84,7 +84,7 @@ fn fill_rows(
     hi: &[u8],
     out: &mut [u8],
 )
-    requires { ⌜ Fine dims (now vector) (now lo) (now hi) ⌝
+    requires { ⌜ FineVectors dims (now vector) (now lo) (now hi) ⌝
         ∗ ⌜ (isWidth bits ≡ true) × (n ≡ levels bits) × (top ≡ d.top bits) × (length (now out) ≡ tableSize bits dims) ⌝ }
     ensures { λ r. ⌜ now (out .exit) ≡ tableBytes m bits dims (now (vector .entry)) (now (lo .entry)) (now (hi .entry)) ⌝ }
 {
@@ -102,7 +102,7 @@ fn fill_rows(
 
 // The table of a query.
 pub fn fill(m: Metric, w: Width, dims: usize, vector: &[u8], lo: &[u8], hi: &[u8], out: &mut [u8])
-    requires { ⌜ Fine dims (now vector) (now lo) (now hi) ⌝ ∗ ⌜ length (now out) ≡ tableSize (bitsOf w) dims ⌝ }
+    requires { ⌜ FineVectors dims (now vector) (now lo) (now hi) ⌝ ∗ ⌜ length (now out) ≡ tableSize (bitsOf w) dims ⌝ }
     ensures { λ r. ⌜ now (out .exit) ≡ tableBytes m (bitsOf w) dims (now (vector .entry)) (now (lo .entry)) (now (hi .entry)) ⌝ }
 {
     match w {

@@ -1,7 +1,6 @@
 // Numbers as text: a decimal number read, and a float printed.
 ghost use Prim.Native.Nat.{_+_, _*_, _^_, _<_, _≤_};
 ghost use mathlib.Core.Path.{_≡_};
-ghost use lib.ListN.{length};
 
 pub enum Number {
     Is(u32),

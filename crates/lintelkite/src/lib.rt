@@ -159,14 +159,14 @@ pub extern "C" fn lk_query_sum(dims: u32, query: &[u8], out: &mut [u8]) -> u32
 pub extern "C" fn lk_code_sum(dims: u32, query: &[u8], code: &[u8], out: &mut [u8]) -> u32
     ensures { λ r. ⌜ (r, now (out .exit)) ≡ sums.codeSumAnswer dims (now (query .entry)) (now (code .entry)) (now (out .entry)) ⌝ }
 {
-    sums::code_sum(dims, query, code, out)
+    planes::code_sum(dims, query, code, out)
 }
 
 #[no_mangle]
 pub extern "C" fn lk_block_sums(dims: u32, query: &[u8], block: &[u8], out: &mut [u8]) -> u32
     ensures { λ r. ⌜ (r, now (out .exit)) ≡ sums.blockSumsAnswer dims (now (query .entry)) (now (block .entry)) (now (out .entry)) ⌝ }
 {
-    sums::block_sums(dims, query, block, out)
+    lanes::block_sums(dims, query, block, out)
 }
 
 // ---- module 7, estimates

@@ -17,12 +17,12 @@ ghost use Rattle.estimate.specs.Estimate.{halved, rough, lowerBound, est
 ghost use Rattle.estimate.specs.Parts.{IsReady, Fits, estimateWords};
 ghost use Rattle.estimate.specs.Record.{laneFactors, codeEstimate, laneWords};
 ghost use Rattle.estimate.specs.Calls.{missingQuery, badQuery, queryNumber};
-use code::parts::reader::Factors;
-use code::parts::reader::factors_of;
-use code::parts::reader::words_of;
 use crate::Asked;
 use crate::Query;
 use crate::Ready;
+use code::parts::reader::Factors;
+use code::parts::reader::factors_of;
+use code::parts::reader::words_of;
 use lanes::parts::lane_sums;
 use planes::parts::asymmetric_binary_dot_product;
 use words::BAD_LENGTH;

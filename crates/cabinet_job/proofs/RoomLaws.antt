@@ -5,7 +5,6 @@ use mathlib.Core.Path.{_≡_, refl, sym, ap, _∙_}
 use native.Mathlib.Omega.{arith}
 use lib.ListN.{length}
 use Rattle.words.specs.Refusals.{orElse}
-use Rattle.estimate.specs.declared.Query.{Query}
 use Rattle.walk.specs.Walk.{rangeNumber, walkNumber, walkAnswer}
 use Rattle.walk.proofs.AnswerLaws.{inside}
 
@@ -20,7 +19,7 @@ second-none zero b e = e
 second-none (suc a) b e = absurd (omega arith)
 
 -- its range has no more ids than the lists have places
-pub walk-room : (r metric layout dims : ℕ) (v : Query) (qs rs : List ℕ) (n start end : ℕ) (ids bounds marks count ids′ bounds′ marks′ count′ : List ℕ)
+pub walk-room : (r metric layout dims : ℕ) (v : _) (qs rs : List ℕ) (n start end : ℕ) (ids bounds marks count ids′ bounds′ marks′ count′ : List ℕ)
     → (r, ids′, bounds′, marks′, count′) ≡ walkAnswer metric layout dims v qs rs n start end ids bounds marks count → r ≡ 0
     → end - start ≤ length marks
 unfolding walkAnswer walkNumber

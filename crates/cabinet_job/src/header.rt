@@ -10,31 +10,29 @@ use crate::fault::Fault;
 use crate::fault::Outcome;
 use crate::order;
 use crate::records;
-use estimate::Query;
 
 // What the walk is asked for.
 pub struct Header {
     pub metric: u32,
     pub dims: u32,
     pub n: u32,
-    pub v: Query,
+    pub dis_v_2: f32,
+    pub b: f32,
+    pub k: f32,
 }
 
 fn header_of(s: &[u8]) -> Header
     requires { ⌜ length (now s) ≡ 32 ⌝ }
     ensures { λ r. ⌜ (r .metric ≡ numAt 4 (now (s .entry)) 8) × (r .dims ≡ numAt 4 (now (s .entry)) 12) × (r .n ≡ numAt 4 (now (s .entry)) 16) ⌝ }
-    ensures { λ r. ⌜ (r .v .«dis_v_2» ≡ f32At (now (s .entry)) 5) × (r .v .b ≡ f32At (now (s .entry)) 6) × (r .v .k ≡ f32At (now (s .entry)) 7) ⌝ }
+    ensures { λ r. ⌜ (r .«dis_v_2» ≡ f32At (now (s .entry)) 5) × (r .b ≡ f32At (now (s .entry)) 6) × (r .k ≡ f32At (now (s .entry)) 7) ⌝ }
 {
-    let v = Query {
-        dis_v_2: words::f32_at(s, 5),
-        b: words::f32_at(s, 6),
-        k: words::f32_at(s, 7),
-    };
     Header {
         metric: words::u32_at(s, 8),
         dims: words::u32_at(s, 12),
         n: words::u32_at(s, 16),
-        v: v,
+        dis_v_2: words::f32_at(s, 5),
+        b: words::f32_at(s, 6),
+        k: words::f32_at(s, 7),
     }
 }
 
@@ -48,7 +46,7 @@ fn size_of(dims: u32) -> Size
     ensures { λ r. ⌜ (r .refused ≡ 0 → (dims ≤ mostDims) × (r .bytes ≤ mostBlock)) ⌝ }
 {
     let mut out = [0u8; 4];
-    let refused = block::block_size(dims, &mut out);
+    let refused = lintelkite::lk_block_size(dims, &mut out);
     let bytes = words::u32_at(&out, 0) as usize;
     Size {
         refused: refused,

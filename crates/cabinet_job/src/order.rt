@@ -61,7 +61,7 @@ fn take(
     d: f32,
 ) -> Step {
     let mut count = [0u8; 4];
-    let refused = rerank::supply(bounds, distances, marks, place, d, &mut count);
+    let refused = lintelkite::lk_rerank_supply(bounds, distances, marks, place, d, &mut count);
     if refused != 0 {
         return stopped(Fault::Distance(of, refused));
     }
@@ -99,7 +99,7 @@ fn turn(
 ) -> Step
     requires { ⌜ length (now out) ≡ 16 ⌝ }
 {
-    let refused = rerank::next(bounds, distances, marks, out);
+    let refused = lintelkite::lk_rerank_next(bounds, distances, marks, out);
     if refused != 0 {
         return stopped(Fault::Lists(refused));
     }

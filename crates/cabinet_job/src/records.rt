@@ -45,11 +45,13 @@ fn walk_block(
     ensures { λ r. ⌜ (r ≡ 0 → m ≤ length (now (marks .entry))) ⌝ }
 {
     let mut count = [0u8; 4];
-    walk::walk(
+    lintelkite::lk_walk(
         h.metric,
         BLOCKS,
         h.dims,
-        h.v,
+        h.dis_v_2,
+        h.b,
+        h.k,
         query,
         block,
         m,

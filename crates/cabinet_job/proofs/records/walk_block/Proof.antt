@@ -5,11 +5,11 @@ use borrow.Author.Needs.{needs}
 use Rattle.cabinet_job.proofs.records.walk_block.Statement.{statement}
 use Rattle.cabinet_job.proofs.records.walk_block.Tie as tie
 
-slice-aggregate-walk : tie.Need-slice-aggregate-walk
-slice-aggregate-walk c = search needs
+slice-aggregate-lk-walk : tie.Need-slice-aggregate-lk-walk
+slice-aggregate-lk-walk c = search needs
 
-walk-requires : tie.Need-walk-requires
-walk-requires c κs = search needs
+lk-walk-requires : tie.Need-lk-walk-requires
+lk-walk-requires c κs = search needs
 
 same-length : tie.Need-same-length
 same-length c = search needs
@@ -21,9 +21,9 @@ same-length-3 : tie.Need-same-length-3
 same-length-3 c = search needs
 
 returns : tie.Need-returns
-returns c = λ z. omega (arith, walk-room _ _ _ _ _ _ _ _ _ _ _ _ _ _ _ _ _ _ (c .before .before .before .before .before .before .before .walk .ensures) z)
+returns c = λ z. omega (arith, walk-room _ _ _ _ _ _ _ _ _ _ _ _ _ _ _ _ _ _ (c .before .before .before .before .before .before .before .lk-walk .ensures) z)
 
 pub walk-block-spec : {M : Type 1} → statement M
 walk-block-spec =
     tie.close
-    (tie.spec slice-aggregate-walk walk-requires same-length same-length-2 same-length-3 returns)
+    (tie.spec slice-aggregate-lk-walk lk-walk-requires same-length same-length-2 same-length-3 returns)

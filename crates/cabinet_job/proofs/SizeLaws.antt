@@ -6,12 +6,13 @@ use native.Mathlib.Omega.{arith}
 use Rattle.words.specs.Bytes.{numAt, bytesOf}
 use Rattle.words.specs.Limits.{mostDims}
 use Rattle.words.specs.Refusals.{sizeAnswer, sizeNumber, answer, badDims}
+use Rattle.cabinet_job.specs.Job.{mostBlock}
 use Rattle.words.proofs.ByteLaws.{num-bytes}
 use Rattle.words.proofs.RefusalLaws.{no-row, few-dims, after-accepted}
 
 -- where a block's size is accepted it is that of at most 4,369 dims
 pub size-fits : (dims r x : ℕ) (out old : List ℕ) → (r, out) ≡ sizeAnswer dims (512 + 16 * ((dims + 3) / 4)) old → r ≡ 0 → x ≡ numAt 4 out 0
-    → (dims ≤ mostDims) × (x ≤ 18000)
+    → (dims ≤ mostDims) × (x ≤ mostBlock)
 unfolding sizeAnswer sizeNumber answer
 size-fits dims r x out old e z f =
     let size = 512 + 16 * ((dims + 3) / 4) in

@@ -10,6 +10,8 @@ use crate::fault::Fault;
 use crate::fault::Outcome;
 use crate::order;
 use crate::records;
+use words::MOST_DIMS;
+use words::MOST_PLACES;
 
 // What the walk is asked for.
 pub struct Header {
@@ -68,7 +70,7 @@ pub fn job(records: i32, distances: i32, wanted: u32) -> Outcome {
     if s.refused != 0 {
         return Outcome::Stop(Fault::Dims(s.refused));
     }
-    let mut query = [0u8; 4369];
+    let mut query = [0u8; MOST_DIMS as usize];
     with_query(records, distances, wanted, h, s.bytes, &mut query)
 }
 
@@ -106,9 +108,9 @@ fn with_block(
     requires { ⌜ size ≤ mostBlock ⌝ }
 {
     let mut block = [0u8; 18000];
-    let mut ids = [0u8; 16384];
-    let mut bounds = [0u8; 16384];
-    let mut marks = [0u8; 4096];
+    let mut ids = [0u8; 4 * MOST_PLACES];
+    let mut bounds = [0u8; 4 * MOST_PLACES];
+    let mut marks = [0u8; MOST_PLACES];
     let o = records::load(
         records,
         h,

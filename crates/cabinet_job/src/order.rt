@@ -3,11 +3,13 @@ ghost use mathlib.Core.Path.{_≡_};
 ghost use Prim.Native.Nat.{_+_, _*_, _^_, _<_, _≤_};
 ghost use lib.ListN.{length};
 ghost use Rattle.words.specs.Limits.{mostPlaces};
+ghost use Rattle.cabinet_job.specs.Job.{FullLists};
 use crate::decimal;
 use crate::decimal::put;
 use crate::fault;
 use crate::fault::Fault;
 use crate::fault::Outcome;
+use words::MOST_PLACES;
 
 const ASK: u32 = 1;
 
@@ -243,13 +245,13 @@ fn least(a: u32, b: usize) -> usize
 // The first n places of the lists are the candidates.
 pub fn rank(fd: i32, wanted: u32, n: usize, ids: &[u8], bounds: &[u8], marks: &mut [u8]) -> Outcome
     requires { ⌜ n ≤ mostPlaces ⌝ }
-    requires { ⌜ (length (now ids) ≡ 16384) × (length (now bounds) ≡ 16384) × (length (now marks) ≡ mostPlaces) ⌝ }
+    requires { ⌜ FullLists (now ids) (now bounds) (now marks) ⌝ }
 {
     let four = 4 * n;
     if libc::lseek(fd, 0, libc::SEEK_END) != four as i64 {
         return Outcome::Stop(Fault::Floats);
     }
-    let mut distances = [0u8; 16384];
+    let mut distances = [0u8; 4 * MOST_PLACES];
     answer(
         fd,
         wanted,
@@ -272,7 +274,7 @@ fn answer(
     requires { ⌜ length (now marks) ≤ mostPlaces ⌝ }
 {
     let n = marks.len();
-    let mut given = [0u8; 65536];
+    let mut given = [0u8; 16 * MOST_PLACES];
     let got = give(
         fd,
         least(wanted, n),

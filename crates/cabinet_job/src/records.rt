@@ -4,11 +4,12 @@ ghost use mathlib.Core.Bool.{false};
 ghost use Prim.Native.Nat.{_+_, _^_, _<_, _≤_};
 ghost use lib.ListN.{length};
 ghost use Rattle.words.specs.Limits.{mostPlaces};
-ghost use Rattle.cabinet_job.specs.Job.{stopsAt};
+ghost use Rattle.cabinet_job.specs.Job.{stopsAt, FullLists};
 use crate::fault;
 use crate::fault::Fault;
 use crate::fault::Outcome;
 use crate::header::Header;
+use words::MOST_PLACES;
 
 // The records are blocks: the layout's number.
 const BLOCKS: u32 = 2;
@@ -26,10 +27,8 @@ fn places_end(have: u32, m: u32) -> usize
     requires { ⌜ (have ≤ mostPlaces) × (have + m < 2 ^ 32) ⌝ }
     ensures { λ r. ⌜ (have ≤ r) × (r ≤ mostPlaces) × (r ≤ have + m) ⌝ }
 {
-    if 4096 < have + m {
-        return 4096;
-    }
-    (have + m) as usize
+    let end = (have + m) as usize;
+    if end < MOST_PLACES { end } else { MOST_PLACES }
 }
 
 // The walk of one block that has m records, to lists of its own.
@@ -84,7 +83,7 @@ fn walk_on(
     marks: &mut [u8],
 ) -> u32
     requires { ⌜ (have ≤ mostPlaces) × (have + m < 2 ^ 32) ⌝ }
-    requires { ⌜ (length (now ids) ≡ 16384) × (length (now bounds) ≡ 16384) × (length (now marks) ≡ mostPlaces) ⌝ }
+    requires { ⌜ FullLists (now ids) (now bounds) (now marks) ⌝ }
     ensures { λ r. ⌜ (r ≡ 0 → have + m ≤ mostPlaces) ⌝ }
 {
     let from = have as usize;
@@ -115,7 +114,7 @@ fn next_block(
     marks: &mut [u8],
 ) -> Outcome
     requires { ⌜ (have ≤ mostPlaces) × (have + m < 2 ^ 32) ⌝ }
-    requires { ⌜ (length (now ids) ≡ 16384) × (length (now bounds) ≡ 16384) × (length (now marks) ≡ mostPlaces) ⌝ }
+    requires { ⌜ FullLists (now ids) (now bounds) (now marks) ⌝ }
     ensures { λ r. ⌜ (stopsAt r ≡ false → have + m ≤ mostPlaces) ⌝ }
 {
     if io::read_full(fd, block) < block.len() {
@@ -138,7 +137,7 @@ pub fn load(
     bounds: &mut [u8],
     marks: &mut [u8],
 ) -> Outcome
-    requires { ⌜ (length (now ids) ≡ 16384) × (length (now bounds) ≡ 16384) × (length (now marks) ≡ mostPlaces) ⌝ }
+    requires { ⌜ FullLists (now ids) (now bounds) (now marks) ⌝ }
     ensures { λ r. ⌜ (stopsAt r ≡ false → h .n ≤ mostPlaces) ⌝ }
 {
     let n = h.n;

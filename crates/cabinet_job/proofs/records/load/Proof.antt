@@ -3,13 +3,14 @@ use Rattle.cabinet_job.proofs.StopLaws.{goes-on, clash}
 use Prim.Native.Nat.{_≤_, _-_}
 use mathlib.Core.Path.{_≡_}
 use lib.ListN.{length}
+use Rattle.words.specs.Limits.{mostPlaces}
 use borrow.Author.Needs.{needs}
 use Rattle.cabinet_job.proofs.records.load.Statement.{statement}
 use Rattle.cabinet_job.proofs.records.load.Tie as tie
 
 abbrev Inv-loop : tie.InvT-loop
 Inv-loop fd h query block₀ ids₀ bounds₀ marks₀ n have₀ block ids bounds marks have =
-    (have ≤ n) × (have ≤ 4096) × (length block ≡ length block₀) × (length ids ≡ length ids₀)
+    (have ≤ n) × (have ≤ mostPlaces) × (length block ≡ length block₀) × (length ids ≡ length ids₀)
     × (length bounds ≡ length bounds₀) × (length marks ≡ length marks₀)
 
 abbrev μ-loop : tie.MeasureT-loop

@@ -5,44 +5,50 @@ use mathlib.Core.List.{List, [], _∷_, _++_}
 use Prim.Native.Nat.{ℕ, zero, suc, _+_, _*_, _<_, _≤_}
 use native.Mathlib.Nat.{zero-add}
 use native.Mathlib.Omega.{arith}
-use borrow.Author.Tests.{lt-ltb, le-ltb, eq-eqb}
+use borrow.Author.Tests.{lt-ltb, le-ltb}
 use lib.Dec.{eqb}
 use lib.ListN.{length, getD, set, length-set, length-append}
 use lib.Seq.{sets}
 use lib.Ieee.{Float, isNan, ne, binary32, ofBits, toBits}
-use Rattle.words.specs.Bytes.{bytesOf, floatBytes}
+use Rattle.words.specs.Bytes.{bytesOf, f32At, floatBytes}
 use Rattle.words.specs.Limits.{mostPlaces}
-use Rattle.words.specs.Refusals.{after, badLength}
+use Rattle.words.specs.Refusals.{after, orElse, badLength}
 use Rattle.words.proofs.ByteLaws.{length-bytesOf, length-floatBytes, sets-append, sets-all}
 use Rattle.words.proofs.FloatLaws.{nan-tells, number-tells}
-use Rattle.words.proofs.RefusalLaws.{after-refused, sized, unsized, none-bad}
-use Rattle.rerank.specs.Rerank.{State, answerOf, asksFor, missing, badMark, nextRefusal, supplyRefusal, oneOrTwo, counted}
+use Rattle.words.proofs.RefusalLaws.{no-row, neither, length-is, after-refused, sized, unsized}
+use Rattle.rerank.specs.Rerank.{IsLeast, answerOf, asksFor, missing, badMark, nextRefusal, supplyRefusal, oneOrTwo, counted}
 use Rattle.rerank.specs.Calls.{stateOf, badLists, answerMarks, answerBytes, nextNumber, nextAnswer, supplyNumber, supplyAnswer}
 use Rattle.rerank.specs.Demand.{notWaiting}
-use Rattle.rerank.specs.Parts.{Accepting, Ruled, ScanTo}
+use Rattle.rerank.specs.Parts.{ScanTo, Accepting, Ruled, foundNumber, listsNumber}
 use Rattle.rerank.specs.declared.Answer.{Answer}
 use Rattle.rerank.specs.declared.Answer.the-variants.{Ask, Give, Done}
 use Rattle.rerank.specs.declared.Scan.{Scan}
 use Rattle.rerank.specs.declared.Ruling.{Ruling}
-use Rattle.rerank.proofs.RuleLaws.{Clean, missing-no, badMark-no, next-clean, means, asks-is}
+use Rattle.rerank.proofs.RuleLaws.{next-clean, supply-clean, means}
 use Rattle.rerank.proofs.RunLaws.{giving}
 use Rattle.rerank.proofs.TallyLaws.{sum-put, counted-few, counted-is}
 use Rattle.rerank.proofs.ScanLaws.{sized-of, found-refusal}
 use Rattle.rerank.proofs.StateLaws.{state-marked}
 
 -- ---- the lengths, as the code tests them
-module _ (e d m : List ℕ) where
-  pub lists-long : mostPlaces < length m → true ≡ badLists e d m
+module _ (e d m : List ℕ) (other : Bool) where
+  pub lists-long : mostPlaces < length m → true ≡ (badLists e d m || other)
   unfolding badLists
   lists-long h = rw (lt-ltb mostPlaces (length m) h)
 
-  pub lists-estimates : (length m ≤ mostPlaces) → (length e ≡ 4 * length m → ⊥) → true ≡ badLists e d m
-  unfolding badLists
-  lists-estimates h k = rw (le-ltb mostPlaces (length m) h, unsized e (4 * length m) k)
+  module _ (h : length m ≤ mostPlaces) where
+    pub lists-estimates : (length e ≡ 4 * length m → ⊥) → true ≡ (badLists e d m || other)
+    unfolding badLists
+    lists-estimates k = rw (le-ltb mostPlaces (length m) h, unsized e (4 * length m) k)
 
-  pub lists-distances : (length m ≤ mostPlaces) → length e ≡ 4 * length m → not (eqb (length d) (4 * length m)) ≡ badLists e d m
-  unfolding badLists badLength
-  lists-distances h k = rw (le-ltb mostPlaces (length m) h, eq-eqb (length e) (4 * length m) k)
+    module _ (k : length e ≡ 4 * length m) where
+      pub lists-distances : (length d ≡ 4 * length m → ⊥) → true ≡ (badLists e d m || other)
+      unfolding badLists
+      lists-distances l = rw (le-ltb mostPlaces (length m) h, sized e (4 * length m) k, unsized d (4 * length m) l)
+
+      pub lists-other : length d ≡ 4 * length m → other ≡ (badLists e d m || other)
+      unfolding badLists
+      lists-other l = rw (le-ltb mostPlaces (length m) h, sized e (4 * length m) k, sized d (4 * length m) l)
 
 -- ---- what `next` writes
 set-past : (l : List ℕ) (i v : ℕ) → length l ≤ i → set l i v ≡ l
@@ -109,155 +115,144 @@ module _ (a : Answer) (n : ℕ) (out : List ℕ) where
   unfolding answerBytes
   done-bytes e h = rw e (h ∙ ap (λ (z : List ℕ). bytesOf 4 0 ++ bytesOf 4 0 ++ z ++ bytesOf 4 n) zero-bytes)
 
--- ---- what a call on lists of the right lengths finds
-module _ (e d m : List ℕ) (s : Scan) (k : ScanTo e d m (length m) s) where
-  pub ruled-missing : (r : Ruling) → r .refused ≡ 4 → 0 < s .keys .missing → Ruled e d m r
-  ruled-missing r q h =
-      let n : 4 ≡ nextRefusal (stateOf e d m) = rw (lt-ltb 0 (s .keys .missing) h) at (found-refusal e d m s k) in
-      record { refusal = q ∙ n; says = λ z. absurd (omega arith) }
+-- ---- what a call on the lists is refused with
+module _ (e d m : List ℕ) (other nan b : Bool) (h : b ≡ (badLists e d m || other)) where
+  refuses : (n : ℕ) (r : Ruling) → n ≡ listsNumber e d m other nan → (n ≡ 0 → ⊥) → r .refused ≡ n → Ruled e d m other nan r
+  refuses n r e z q = record { refusal = q ∙ e; says = λ w. absurd (z (sym q ∙ w)) }
 
-  pub ruled-bad : (r : Ruling) → r .refused ≡ 5 → s .keys .missing ≤ 0 → 0 < s .bad → Ruled e d m r
-  ruled-bad r q l h =
-      let n : 5 ≡ nextRefusal (stateOf e d m) = rw (le-ltb 0 (s .keys .missing) l, lt-ltb 0 (s .bad) h) at (found-refusal e d m s k) in
-      record { refusal = q ∙ n; says = λ z. absurd (omega arith) }
+  pub ruled-lengths : (r : Ruling) → r .refused ≡ 3 → b ≡ true → Ruled e d m other nan r
+  ruled-lengths r q t = refuses 3 r (unfold listsNumber in rw (← h, t)) (λ z. omega arith) q
 
-  pub accepting : badLists e d m ≡ false → s .keys .missing ≤ 0 → s .bad ≤ 0 → Accepting e d m s
-  accepting h l b =
-      let n : 0 ≡ nextRefusal (stateOf e d m) = rw (le-ltb 0 (s .keys .missing) l, le-ltb 0 (s .bad) b) at (found-refusal e d m s k) in
-      record { sized = h; scanned = k; accepted = sym n }
+  module _ (t : b ≡ false) (s : Scan) (k : ScanTo e d m (length m) s) (n : ℕ) (f : n ≡ foundNumber nan (s .keys .missing) (s .bad)) where
+    by-scan : n ≡ listsNumber e d m other nan
+    unfolding listsNumber foundNumber
+    by-scan = rw (← h, t, f, found-refusal e d m s k)
 
-pub ruled-accepted : (e d m : List ℕ) (s : Scan) (r : Ruling) → Accepting e d m s → r .refused ≡ 0 → r .answer ≡ answerOf (stateOf e d m) → r .count ≡ s .count
-    → Ruled e d m r
-unfolding notWaiting
-ruled-accepted e d m s r k z p q =
-    record {
-      refusal = z ∙ sym (k .accepted);
-      says = λ _. (p, q ∙ k .scanned .count ∙ sym (counted-is (stateOf e d m) (next-clean (stateOf e d m) (k .accepted))));
-    }
+    pub ruled-found : (r : Ruling) → r .refused ≡ n → (n ≡ 0 → ⊥) → Ruled e d m other nan r
+    ruled-found r q z = refuses n r by-scan z q
 
--- ---- the count
-module _ (e d m : List ℕ) (r : Ruling) (k : Ruled e d m r) (z : r .refused ≡ 0) where
-  accepted : nextRefusal (stateOf e d m) ≡ 0
-  accepted = sym (k .refusal) ∙ z
+    module _ (z : n ≡ 0) where
+      pub accepting : Accepting e d m s
+      unfolding listsNumber
+      accepting =
+          let lists = no-row (badLists e d m || other) 2 _ (sym by-scan ∙ z) in
+          record { sized = neither (badLists e d m) other (lists .0) .0; scanned = k; accepted = no-row nan 3 _ (lists .1) .1 }
 
-  clean : Clean (stateOf e d m)
-  clean = next-clean (stateOf e d m) accepted
+      pub ruled-accepted : (r : Ruling) → r .refused ≡ 0 → r .answer ≡ answerOf (stateOf e d m) → r .count ≡ s .count → Ruled e d m other nan r
+      unfolding notWaiting
+      ruled-accepted r q a c =
+          let clean = next-clean (stateOf e d m) (accepting .accepted) in
+          record { refusal = q ∙ sym z ∙ by-scan; says = λ _. (a, c ∙ k .count ∙ sym (counted-is (stateOf e d m) clean)) }
 
-  -- of the marks with place p's changed from x to v
-  count-marked : (d' : List ℕ) (p x v : ℕ) → p < length m → getD m p 0 ≡ x → counted (stateOf e d' (set m p v)) + oneOrTwo x ≡ r .count + oneOrTwo v
-  unfolding counted
-  count-marked d' p x v h q =
-      omega (arith, ap counted (state-marked e d' m p v h), sum-put oneOrTwo (λ i. getD m i 0) p v (length m) h, ap oneOrTwo q, k .says z .1)
-
-  next-count : (a : Answer) → a ≡ answerOf (stateOf e d m) → r .count ≡ counted (stateOf e d (answerMarks a m))
-  next-count (Ask p) h = k .says z .1
-  next-count (Give p x) h =
-      let g = giving (stateOf e d m) p x (accepted, sym h) in
-      omega (arith, count-marked d p 1 2 (g .1 .least .inside) (g .1 .least .marked))
-  next-count Done h = k .says z .1
-
-  module _ (p : ℕ) (asks : asksFor (r .answer) p ≡ true) where
-    now-asked : answerOf (stateOf e d m) ≡ Ask p
-    now-asked = sym (k .says z .0) ∙ asks-is (r .answer) p asks
-
-    pub asked-inside : p < length m
-    asked-inside = means (stateOf e d m) clean (Ask p) now-asked .least .inside
-
-    pub asked-room : badLists e d m ≡ false → 4 * p + 4 ≤ length d
-    asked-room h = omega (arith, asked-inside, sized-of e d m h .distances)
-
-    pub supply-count : (d' : List ℕ) → r .count + 1 ≡ counted (stateOf e d' (set m p 1))
-    supply-count d' = omega (arith, count-marked d' p 0 1 asked-inside (means (stateOf e d m) clean (Ask p) now-asked .least .marked))
-
-    pub count-room : badLists e d m ≡ false → r .count + 1 ≤ mostPlaces
-    count-room h =
-        omega (arith, supply-count d, sized-of e d m h .most, length-set m p 1, counted-few (stateOf e d (set m p 1)))
+-- the count n, with place p's mark changed from x to v
+count-marked : (e d m d' : List ℕ) (n p x v : ℕ) → n ≡ counted (stateOf e d m) → p < length m → getD m p 0 ≡ x
+    → counted (stateOf e d' (set m p v)) + oneOrTwo x ≡ n + oneOrTwo v
+unfolding counted
+count-marked e d m d' n p x v c h q =
+    omega (arith, ap counted (state-marked e d' m p v h), sum-put oneOrTwo (λ i. getD m i 0) p v (length m) h, ap oneOrTwo q)
 
 -- ---- next, a law a return
-module _ (e d m out : List ℕ) (b : Bool) (h : b ≡ badLists e d m) where
-  pub next-lists : b ≡ true → (3, m, out) ≡ nextAnswer e d m out
-  unfolding nextAnswer nextNumber after
-  next-lists t = rw (← h, t)
+module _ (e d m out : List ℕ) (r : Ruling) (k : Ruled e d m (not (eqb (length out) 16)) false r) where
+  number-is : r .refused ≡ nextNumber e d m out
+  unfolding nextNumber listsNumber badLength
+  number-is = k .refusal
 
-  pub next-out : b ≡ false → (length out ≡ 16 → ⊥) → (3, m, out) ≡ nextAnswer e d m out
-  unfolding nextAnswer nextNumber after
-  next-out t k = rw (← h, t, unsized out 16 k)
+  pub next-refused : (r .refused ≡ 0 → ⊥) → (r .refused, m, out) ≡ nextAnswer e d m out
+  unfolding nextAnswer
+  next-refused z =
+      let a = answerOf (stateOf e d m) in
+      let new = answerBytes a (counted (stateOf e d (answerMarks a m))) in
+      rw (← number-is, after-refused (r .refused) m (answerMarks a m) z, after-refused (r .refused) out new z)
 
-  module _ (t : b ≡ false) (o : length out ≡ 16) (r : Ruling) (k : Ruled e d m r) where
-    number-is : nextNumber e d m out ≡ r .refused
+  module _ (z : r .refused ≡ 0) where
+    next-rows : ((badLists e d m || badLength out 16) ≡ false) × (nextRefusal (stateOf e d m) ≡ 0)
     unfolding nextNumber
-    number-is = rw (← h, t, sized out 16 o, k .refusal)
+    next-rows = no-row (badLists e d m || badLength out 16) 2 (nextRefusal (stateOf e d m)) (sym number-is ∙ z)
 
-    pub next-refused : (r .refused ≡ 0 → ⊥) → (r .refused, m, out) ≡ nextAnswer e d m out
-    unfolding nextAnswer
-    next-refused z =
-        let a = answerOf (stateOf e d m) in
-        let new = answerBytes a (counted (stateOf e d (answerMarks a m))) in
-        rw (number-is, after-refused (r .refused) m (answerMarks a m) z, after-refused (r .refused) out new z)
+    pub next-room : length out ≡ 16
+    next-room = length-is out 16 (neither (badLists e d m) (badLength out 16) (next-rows .0) .1)
 
-    pub next-accepted : (m' out' : List ℕ) → r .refused ≡ 0 → m' ≡ answerMarks (r .answer) m → out' ≡ answerBytes (r .answer) (r .count)
-        → (0, m', out') ≡ nextAnswer e d m out
+    next-count : (a : Answer) → a ≡ answerOf (stateOf e d m) → r .count ≡ counted (stateOf e d (answerMarks a m))
+    next-count (Ask p) h = k .says z .1
+    next-count (Give p x) h =
+        let g = giving (stateOf e d m) p x (next-rows .1, sym h) .1 .least in
+        omega (arith, count-marked e d m d (r .count) p 1 2 (k .says z .1) (g .inside) (g .marked))
+    next-count Done h = k .says z .1
+
+    pub next-accepted : (m' out' : List ℕ) → m' ≡ answerMarks (r .answer) m → out' ≡ answerBytes (r .answer) (r .count) → (0, m', out') ≡ nextAnswer e d m out
     unfolding nextAnswer after
-    next-accepted m' out' z p q =
+    next-accepted m' out' p q =
         let a = k .says z .0 in
-        rw (number-is ∙ z, ← a) (ap₂ (λ (x y : List ℕ). (0, x, y)) p (q ∙ ap (answerBytes (r .answer)) (next-count e d m r k z (r .answer) a)))
+        rw (sym number-is ∙ z, ← a) (ap₂ (λ (x y : List ℕ). (0, x, y)) p (q ∙ ap (answerBytes (r .answer)) (next-count (r .answer) a)))
 
 -- ---- supply
--- a supply's table has the rows of next's, where the distance is a number
-same-rows : (s : State) (p : ℕ) (x : Float) → isNan x ≡ false → (nextRefusal s ≡ 0 → ⊥) → nextRefusal s ≡ supplyRefusal s p x
-unfolding nextRefusal supplyRefusal
-same-rows s p x n = go (missing s) (badMark s)
+else-none : (a b : ℕ) → orElse a b ≡ 0 → a ≡ 0
+unfolding orElse
+else-none zero b e = refl
+else-none (suc a) b e = e
+
+nan-is : (x : Float) → ne x x ≡ isNan x
+nan-is x = go (ne x x) refl
   where
-    go : (M B : Bool) → (_≡_ {A = ℕ} (cond M 4 (cond B 5 0)) 0 → ⊥)
-        → _≡_ {A = ℕ} (cond M 4 (cond B 5 0)) (cond (M || isNan x) 4 (cond B 5 (cond (asksFor (answerOf s) p) 0 9)))
-    go true B w = refl
-    go false true w = rw n
-    go false false w = absurd (w refl)
+    go : (b : Bool) → ne x x ≡ b → b ≡ isNan x
+    go true e = sym (nan-tells x e)
+    go false e = sym (number-tells x e)
 
-last-row : (s : State) (p : ℕ) (x : Float) → isNan x ≡ false → nextRefusal s ≡ 0 → supplyRefusal s p x ≡ cond (asksFor (answerOf s) p) 0 9
-unfolding supplyRefusal
-last-row s p x n z =
-    let c = next-clean s z in
-    rw (none-bad (missing s) (isNan x) (missing-no s c) n, badMark-no s c)
+-- its table is that of a call on the lists, and NOT_ASKED
+rows : (l n m b a : Bool) → orElse (cond l 3 (cond n 4 (cond m 4 (cond b 5 0)))) (cond a 0 9) ≡ cond l 3 (cond (m || n) 4 (cond b 5 (cond a 0 9)))
+unfolding orElse
+rows true n m b a = refl
+rows false true m b a = rw (or-true m)
+rows false false true b a = refl
+rows false false false true a = refl
+rows false false false false a = refl
 
-module _ (e d m out : List ℕ) (p : ℕ) (x : Float) (b : Bool) (h : b ≡ badLists e d m) where
-  pub supply-lists : b ≡ true → (3, d, m, out) ≡ supplyAnswer e d m p x out
-  unfolding supplyAnswer supplyNumber after
-  supply-lists t = rw (← h, t)
+module _ (e d m : List ℕ) (p : ℕ) (x : Float) (out : List ℕ) (r : Ruling) (k : Ruled e d m (not (eqb (length out) 4)) (ne x x) r)
+    (n : ℕ) (j : n ≡ orElse (r .refused) (cond (asksFor (r .answer) p) 0 9)) where
+  table : orElse (r .refused) (cond (asksFor (answerOf (stateOf e d m)) p) 0 9) ≡ supplyNumber e d m p x out
+  unfolding supplyNumber supplyRefusal listsNumber nextRefusal badLength
+  table =
+      let s = stateOf e d m in
+      rw (k .refusal, nan-is x) (rows (badLists e d m || badLength out 4) (isNan x) (missing s) (badMark s) (asksFor (answerOf s) p))
 
-  pub supply-out : b ≡ false → (length out ≡ 4 → ⊥) → (3, d, m, out) ≡ supplyAnswer e d m p x out
-  unfolding supplyAnswer supplyNumber after
-  supply-out t k = rw (← h, t, unsized out 4 k)
+  supply-is : n ≡ supplyNumber e d m p x out
+  unfolding orElse
+  supply-is = j ∙ go (r .refused) refl
+    where
+      go : (v : ℕ) → r .refused ≡ v → orElse (r .refused) (cond (asksFor (r .answer) p) 0 9) ≡ supplyNumber e d m p x out
+      go zero z = rw (k .says z .0) table
+      go (suc v) z = rw z (rw z at table)
 
-  module _ (t : b ≡ false) (o : length out ≡ 4) where
-    supply-is : supplyNumber e d m p x out ≡ supplyRefusal (stateOf e d m) p x
+  pub supply-refused : (n ≡ 0 → ⊥) → (n, d, m, out) ≡ supplyAnswer e d m p x out
+  unfolding supplyAnswer
+  supply-refused z =
+      let d' = sets d (4 * p) (floatBytes x) in
+      let new = bytesOf 4 (counted (stateOf e d' (set m p 1))) in
+      rw (← supply-is, after-refused n d d' z, after-refused n m (set m p 1) z, after-refused n out new z)
+
+  module _ (z : n ≡ 0) where
+    supply-rows : ((badLists e d m || badLength out 4) ≡ false) × (supplyRefusal (stateOf e d m) p x ≡ 0)
     unfolding supplyNumber
-    supply-is = rw (← h, t, sized out 4 o)
+    supply-rows = no-row (badLists e d m || badLength out 4) 2 (supplyRefusal (stateOf e d m) p x) (sym supply-is ∙ z)
 
-    refuses : (n : ℕ) → n ≡ supplyRefusal (stateOf e d m) p x → (n ≡ 0 → ⊥) → (n, d, m, out) ≡ supplyAnswer e d m p x out
-    unfolding supplyAnswer
-    refuses n q z =
-        let d' = sets d (4 * p) (floatBytes x) in
-        let new = bytesOf 4 (counted (stateOf e d' (set m p 1))) in
-        rw (supply-is ∙ sym q, after-refused n d d' z, after-refused n m (set m p 1) z, after-refused n out new z)
+    fits : (badLists e d m ≡ false) × (badLength out 4 ≡ false)
+    fits = neither (badLists e d m) (badLength out 4) (supply-rows .0)
 
-    pub supply-nan : ne x x ≡ true → (4, d, m, out) ≡ supplyAnswer e d m p x out
-    supply-nan n = refuses 4 (unfold supplyRefusal in rw (nan-tells x n, or-true (missing (stateOf e d m)))) (λ z. omega arith)
+    asked : IsLeast 0 (f32At e) (λ i. getD m i 0) (length m) p
+    asked = let c = supply-clean (stateOf e d m) p x (supply-rows .1) in means (stateOf e d m) (c .0) (Ask p) (c .2) .least
 
-    module _ (n : ne x x ≡ false) (r : Ruling) (k : Ruled e d m r) where
-      pub supply-refused : (r .refused ≡ 0 → ⊥) → (r .refused, d, m, out) ≡ supplyAnswer e d m p x out
-      supply-refused z =
-          refuses (r .refused) (k .refusal ∙ same-rows (stateOf e d m) p x (number-tells x n) (λ w. z (k .refusal ∙ w))) z
+    supply-count : (d' : List ℕ) → r .count + 1 ≡ counted (stateOf e d' (set m p 1))
+    supply-count d' =
+        let c = k .says (else-none (r .refused) _ (sym j ∙ z)) .1 in
+        omega (arith, count-marked e d m d' (r .count) p 0 1 c (asked .inside) (asked .marked))
 
-      module _ (z : r .refused ≡ 0) where
-        last : supplyRefusal (stateOf e d m) p x ≡ cond (asksFor (r .answer) p) 0 9
-        last = rw (k .says z .0) (last-row (stateOf e d m) p x (number-tells x n) (sym (k .refusal) ∙ z))
+    pub supply-room : (p < length m) × (4 * p + 4 ≤ length d) × (length out ≡ 4) × (r .count + 1 ≤ mostPlaces)
+    supply-room =
+        let l = sized-of e d m (fits .0) in
+        let few = counted-few (stateOf e d (set m p 1)) in
+        (asked .inside, omega (arith, asked .inside, l .distances), length-is out 4 (fits .1), omega (arith, supply-count d, l .most, length-set m p 1, few))
 
-        pub supply-unasked : asksFor (r .answer) p ≡ false → (9, d, m, out) ≡ supplyAnswer e d m p x out
-        supply-unasked q = refuses 9 (rw (last, q)) (λ w. omega arith)
-
-        pub supply-accepted : (d' m' out' : List ℕ) → asksFor (r .answer) p ≡ true → d' ≡ sets d (4 * p) (floatBytes x) → m' ≡ set m p 1
-            → out' ≡ bytesOf 4 (r .count + 1) → (0, d', m', out') ≡ supplyAnswer e d m p x out
-        unfolding supplyAnswer after
-        supply-accepted d' m' out' q u v w =
-            rw (supply-is ∙ last, q, u, v, w, supply-count e d m r k z p q (sets d (4 * p) (floatBytes x)))
+    pub supply-accepted : (d' m' out' : List ℕ) → d' ≡ sets d (4 * p) (floatBytes x) → m' ≡ set m p 1 → out' ≡ bytesOf 4 (r .count + 1)
+        → (0, d', m', out') ≡ supplyAnswer e d m p x out
+    unfolding supplyAnswer after
+    supply-accepted d' m' out' u v w = rw (sym supply-is ∙ z, u, v, w, supply-count (sets d (4 * p) (floatBytes x)))

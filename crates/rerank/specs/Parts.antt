@@ -1,6 +1,6 @@
 -- What the workers of module 9 promise each other: the scan of the lists, and what it finds. No public promise cites this file.
 use mathlib.Core.Path.{_≡_}
-use mathlib.Core.Bool.{Bool, false, cond}
+use mathlib.Core.Bool.{Bool, false, _||_, cond}
 use mathlib.Core.List.{List}
 use Prim.Native.Nat.{ℕ, zero, suc, _+_, _-_, _*_, _%_, _<_, _≤_}
 use lib.Dec.{eqb, leb, ltb}
@@ -91,9 +91,17 @@ pub record Accepting (e d m : List ℕ) (s : Scan) : Type 0 where
   pub scanned : ScanTo e d m (length m) s
   pub accepted : nextRefusal (stateOf e d m) ≡ 0
 
+-- the refusals 4 and 5, by the counts of a scan; `nan` tells of a NaN beside the lists
+unfoldable pub foundNumber : Bool → ℕ → ℕ → ℕ
+foundNumber nan missing bad = cond nan 4 (cond (ltb 0 missing) 4 (cond (ltb 0 bad) 5 0))
+
+-- the refusals 3 to 5 of a call on the lists: `other` is that `out` is not of its length
+unfoldable pub listsNumber : List ℕ → List ℕ → List ℕ → Bool → Bool → ℕ
+listsNumber e d m other nan = cond (badLists e d m || other) 3 (cond nan 4 (nextRefusal (stateOf e d m)))
+
 -- what a call on the lists is refused with, or the answer and the count
-pub record Ruled (e d m : List ℕ) (r : Ruling) : Type 0 where
-  pub refusal : r .refused ≡ nextRefusal (stateOf e d m)
+pub record Ruled (e d m : List ℕ) (other nan : Bool) (r : Ruling) : Type 0 where
+  pub refusal : r .refused ≡ listsNumber e d m other nan
   pub says : r .refused ≡ 0 → (r .answer ≡ answerOf (stateOf e d m)) × (r .count ≡ counted (stateOf e d m))
 
 -- r is the first place from `from` on whose key this is, and n where there is none

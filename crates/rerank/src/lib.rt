@@ -1,17 +1,18 @@
 // Module 9: the reranker, over lent byte buffers. It ports `ErrorFlatReranker` of the Rust's reranker/error.rs: the heaps
 // become one scan over the lists, the callback becomes Ask and supply.
 ghost use mathlib.Core.Path.{_≡_};
-ghost use mathlib.Core.Bool.{false, cond};
+ghost use mathlib.Core.Bool.{false, _||_, cond};
 ghost use Prim.Native.Nat.{_+_, _*_, _<_, _≤_};
 ghost use mathlib.Core.List.{_++_};
 ghost use lib.Dec.{eqb, ltb};
 ghost use lib.ListN.{length};
 ghost use Rattle.words.specs.Bytes.{bytesOf, floatBytes};
 ghost use Rattle.words.specs.Limits.{mostPlaces};
+ghost use Rattle.words.specs.Refusals.{orElse};
 ghost use Rattle.rerank.specs.Rerank.{answerOf, asksFor};
 ghost use Rattle.rerank.specs.Calls.{stateOf, badLists, nextAnswer, supplyAnswer, answerBytes, answerMarks};
 ghost use Rattle.rerank.specs.Parts.{keyOf, keyIf, lesser, keyAt, nanOne, lacks, aboveMost, notZero, KeysTo, CountsOf, WithBlock, ScanTo, FirstAt};
-ghost use Rattle.rerank.specs.Parts.{Accepting, Ruled};
+ghost use Rattle.rerank.specs.Parts.{Accepting, foundNumber, Ruled};
 
 // What the rule says to do next: ask for a place's distance, hand a place out, or nothing.
 pub enum Answer {
@@ -211,9 +212,9 @@ fn first_at(s: &[u8], m: &[u8], k: u8, key: u32, from: usize) -> usize
     n
 }
 
-// Whether the lists have not one number of places, or more than 4,096.
-fn bad_lists(e: &[u8], d: &[u8], m: &[u8]) -> bool
-    ensures { λ r. ⌜ r ≡ badLists (now (e .entry)) (now (d .entry)) (now (m .entry)) ⌝ }
+// Whether the lists have not one number of places, or more than 4,096, or another length is wrong.
+fn bad_lengths(e: &[u8], d: &[u8], m: &[u8], other: bool) -> bool
+    ensures { λ r. ⌜ r ≡ (badLists (now (e .entry)) (now (d .entry)) (now (m .entry)) || other) ⌝ }
 {
     let n = m.len();
     if words::MOST_PLACES < n {
@@ -222,7 +223,10 @@ fn bad_lists(e: &[u8], d: &[u8], m: &[u8]) -> bool
     if e.len() != 4 * n {
         return true;
     }
-    d.len() != 4 * n
+    if d.len() != 4 * n {
+        return true;
+    }
+    other
 }
 
 // What the rule says, by what the scan found. NO_KEY is above every key, so that no test for an empty set is needed before the first.
@@ -259,18 +263,35 @@ fn refused_with(number: u32) -> Ruling
     }
 }
 
-// The two tests stand in branches of their own: joined, they would keep the loops before them from going by vectors.
-fn rule_on(e: &[u8], d: &[u8], m: &[u8]) -> Ruling
-    requires { ⌜ badLists (now e) (now d) (now m) ≡ false ⌝ }
-    ensures { λ r. ⌜ Ruled (now (e .entry)) (now (d .entry)) (now (m .entry)) r ⌝ }
+// The refusals 4 and 5, by what the scan found; `nan` tells of a NaN beside the lists. The tests stand in branches of their own:
+// joined, they would keep the loops before them from going by vectors.
+fn refusal(nan: bool, missing: u32, bad: u32) -> u32
+    ensures { λ r. ⌜ r ≡ foundNumber nan missing bad ⌝ }
 {
+    if nan {
+        return words::MISSING;
+    }
+    if 0 < missing {
+        return words::MISSING;
+    }
+    if 0 < bad {
+        return words::BAD_VALUE;
+    }
+    words::ACCEPTED
+}
+
+// The refusals 3 to 5, and what the rule says. `other` is that out is not of its length.
+fn rule_on(e: &[u8], d: &[u8], m: &[u8], other: bool, nan: bool) -> Ruling
+    ensures { λ r. ⌜ Ruled (now (e .entry)) (now (d .entry)) (now (m .entry)) other nan r ⌝ }
+{
+    if bad_lengths(e, d, m, other) {
+        return refused_with(words::BAD_LENGTH);
+    }
     let s = scan_lists(e, d, m);
     let keys = s.keys;
-    if 0 < keys.missing {
-        return refused_with(words::MISSING);
-    }
-    if 0 < s.bad {
-        return refused_with(words::BAD_VALUE);
+    let refused = refusal(nan, keys.missing, s.bad);
+    if refused != 0 {
+        return refused_with(refused);
     }
     Ruling {
         refused: words::ACCEPTED,
@@ -322,13 +343,7 @@ pub fn next(estimates: &[u8], distances: &[u8], marks: &mut [u8], out: &mut [u8]
     ensures { λ r. ⌜ (r, now (marks .exit), now (out .exit))
         ≡ nextAnswer (now (estimates .entry)) (now (distances .entry)) (now (marks .entry)) (now (out .entry)) ⌝ }
 {
-    if bad_lists(estimates, distances, marks) {
-        return words::BAD_LENGTH;
-    }
-    if out.len() != 16 {
-        return words::BAD_LENGTH;
-    }
-    let r = rule_on(estimates, distances, marks);
+    let r = rule_on(estimates, distances, marks, out.len() != 16, false);
     if r.refused != 0 {
         return r.refused;
     }
@@ -348,6 +363,20 @@ fn asks_for(a: Answer, place: u32) -> bool
     }
 }
 
+// The refusals of a supply, by what the rule says.
+fn judge(r: Ruling, place: u32) -> u32
+    ensures { λ n. ⌜ n ≡ orElse (r .refused) (cond (asksFor (r .answer) place) 0 9) ⌝ }
+{
+    if r.refused != 0 {
+        return r.refused;
+    }
+    let a = r.answer;
+    if asks_for(a, place) {
+        return words::ACCEPTED;
+    }
+    words::NOT_ASKED
+}
+
 // The distance of the place that is now asked for is stored, and the place marked as asked. out is the count.
 pub fn supply(
     estimates: &[u8],
@@ -360,22 +389,16 @@ pub fn supply(
     ensures { λ r. ⌜ (r, now (distances .exit), now (marks .exit), now (out .exit))
         ≡ supplyAnswer (now (estimates .entry)) (now (distances .entry)) (now (marks .entry)) place distance (now (out .entry)) ⌝ }
 {
-    if bad_lists(estimates, distances, marks) {
-        return words::BAD_LENGTH;
-    }
-    if out.len() != 4 {
-        return words::BAD_LENGTH;
-    }
-    if distance != distance {
-        return words::MISSING;
-    }
-    let r = rule_on(estimates, distances, marks);
-    if r.refused != 0 {
-        return r.refused;
-    }
-    let a = r.answer;
-    if !asks_for(a, place) {
-        return words::NOT_ASKED;
+    let r = rule_on(
+        estimates,
+        distances,
+        marks,
+        out.len() != 4,
+        distance != distance,
+    );
+    let refused = judge(r, place);
+    if refused != 0 {
+        return refused;
     }
     let at = place as usize;
     words::put_f32(distances, 4 * at, distance);

@@ -26,7 +26,8 @@ use Rattle.rerank.specs.declared.Answer.the-variants.{Ask, Give, Done}
 use Rattle.rerank.proofs.RuleLaws.{Clean, next-clean, means}
 use Rattle.rerank.proofs.RunLaws.{giving, supplying, run-join, ran-join, clean-then, then-estimate}
 use Rattle.rerank.proofs.TallyLaws.{counted-few, counted-is}
-use Rattle.rerank.proofs.ScanLaws.{Sized, sized-of}
+use Rattle.scan.specs.Parts.{Sized}
+use Rattle.rerank.proofs.FoundLaws.{sized-of}
 use Rattle.rerank.proofs.StateLaws.{state-given, state-supplied}
 
 -- ---- reading next's bytes

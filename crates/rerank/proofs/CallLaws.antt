@@ -19,15 +19,16 @@ use Rattle.words.proofs.RefusalLaws.{no-row, neither, length-is, after-refused,
 use Rattle.rerank.specs.Rerank.{IsLeast, answerOf, asksFor, missing, badMark, nextRefusal, supplyRefusal, oneOrTwo, counted}
 use Rattle.rerank.specs.Calls.{stateOf, badLists, answerMarks, answerBytes, nextNumber, nextAnswer, supplyNumber, supplyAnswer}
 use Rattle.rerank.specs.Demand.{notWaiting}
-use Rattle.rerank.specs.Parts.{ScanTo, Accepting, Ruled, foundNumber, listsNumber}
+use Rattle.scan.specs.Parts.{ScanTo}
+use Rattle.rerank.specs.Parts.{Accepting, Ruled, foundNumber, listsNumber}
 use Rattle.rerank.specs.declared.Answer.{Answer}
 use Rattle.rerank.specs.declared.Answer.the-variants.{Ask, Give, Done}
-use Rattle.rerank.specs.declared.Scan.{Scan}
+use Rattle.scan.specs.declared.Scan.{Scan}
 use Rattle.rerank.specs.declared.Ruling.{Ruling}
 use Rattle.rerank.proofs.RuleLaws.{next-clean, supply-clean, means}
 use Rattle.rerank.proofs.RunLaws.{giving}
 use Rattle.rerank.proofs.TallyLaws.{sum-put, counted-few, counted-is}
-use Rattle.rerank.proofs.ScanLaws.{sized-of, found-refusal}
+use Rattle.rerank.proofs.FoundLaws.{sized-of, found-refusal}
 use Rattle.rerank.proofs.StateLaws.{state-marked}
 
 -- ---- the lengths, as the code tests them

@@ -15,14 +15,16 @@ use lib.Ieee.Bits.{nanBits-is}
 use Rattle.words.specs.Bytes.{numAt, f32At}
 use Rattle.rerank.specs.Rerank.{least, IsLeast, choose, answerOf}
 use Rattle.rerank.specs.Calls.{stateOf}
-use Rattle.rerank.specs.Parts.{keyOf, noKey, keyIf, keyAt, leastKey, FirstAt, Accepting}
+use Rattle.scan.specs.Parts.{keyOf, noKey, keyIf, keyAt, leastKey, Sized, FirstAt}
+use Rattle.rerank.specs.Parts.{Accepting}
 use Rattle.rerank.specs.declared.Answer.the-variants.{Ask, Give, Done}
-use Rattle.rerank.specs.declared.Scan.{Scan}
+use Rattle.scan.specs.declared.Scan.{Scan}
 use Rattle.rerank.proofs.OrderLaws.{Num}
-use Rattle.rerank.proofs.KeyLaws.{key-less, key-high}
+use Rattle.scan.proofs.KeyLaws.{key-less, key-high}
 use Rattle.rerank.proofs.LeastLaws.{Numbers, Says, least-says, least-is, least-none}
 use Rattle.rerank.proofs.RuleLaws.{Clean, next-clean}
-use Rattle.rerank.proofs.ScanLaws.{Sized, sized-of, key-low, key-most, key-hit}
+use Rattle.scan.proofs.ScanLaws.{key-low, key-most, key-hit}
+use Rattle.rerank.proofs.FoundLaws.{sized-of}
 
 -- ---- the key of a place that has the mark
 key-of : (k : ℕ) (s m : List ℕ) (q : ℕ) → getD m q 0 ≡ k → keyAt k s m q ≡ keyOf (numAt 4 s (4 * q))

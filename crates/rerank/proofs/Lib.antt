@@ -1,10 +1,9 @@
 pub mod OrderLaws
-pub mod KeyLaws
 pub mod LeastLaws
 pub mod RuleLaws
 pub mod RunLaws
 pub mod TallyLaws
-pub mod ScanLaws
+pub mod FoundLaws
 pub mod ChoiceLaws
 pub mod StateLaws
 pub mod CallLaws

@@ -15,7 +15,7 @@ use Rattle.words.proofs.SumLaws.{sum-ext, sum-const, sum-le}
 use Rattle.rerank.specs.Rerank.{State, put, given, supplied, oneOrTwo, counted, Event, asked, supply, gave, done}
 use Rattle.rerank.specs.Rerank.{Accepted, then, ran, Run, tally, aSupply, aGive, supplyOf, giveOf}
 use Rattle.rerank.specs.Demand.{notWaiting}
-use Rattle.rerank.specs.Parts.{notZero}
+use Rattle.scan.specs.Parts.{notZero}
 use Rattle.rerank.specs.declared.Answer.the-variants.{Done}
 use Rattle.rerank.proofs.LeastLaws.{put-here, put-else, at-or-else}
 use Rattle.rerank.proofs.RuleLaws.{Clean, next-clean, means}

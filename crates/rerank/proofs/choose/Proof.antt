@@ -1,7 +1,7 @@
 -- `rerank::choose` meets its contract. Assumes nothing.
 use native.Mathlib.Omega.{arith}
 use Rattle.rerank.proofs.ChoiceLaws.{ask-small, says-ask, says-done, give-small, give-room, says-give}
-use Rattle.rerank.proofs.ScanLaws.{sized-of}
+use Rattle.rerank.proofs.FoundLaws.{sized-of}
 use Rattle.rerank.proofs.choose.Statement.{statement}
 use Rattle.rerank.proofs.choose.Tie as tie
 

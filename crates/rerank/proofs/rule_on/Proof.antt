@@ -1,6 +1,7 @@
 -- `rerank::rule_on` meets its contract. Assumes nothing.
 use mathlib.Core.Path.{refl, sym, _∙_}
 use Rattle.words.proofs.RefusalLaws.{neither}
+use Rattle.rerank.proofs.FoundLaws.{sized-of}
 use Rattle.rerank.proofs.CallLaws.{ruled-lengths, ruled-found, accepting, ruled-accepted}
 use borrow.Author.Needs.{needs}
 use Rattle.rerank.proofs.rule_on.Statement.{statement}
@@ -16,7 +17,7 @@ returns : tie.Need-returns
 returns c = ruled-lengths _ _ _ _ _ _ (c .before .before .bad-lengths .ensures) _ (c .refused-with .ensures) (c .before .if1 .taken)
 
 scan-lists-requires : tie.Need-scan-lists-requires
-scan-lists-requires c κs = neither _ _ (sym (c .before .bad-lengths .ensures) ∙ c .if1 .left) .0
+scan-lists-requires c κs = sized-of _ _ _ (neither _ _ (sym (c .before .bad-lengths .ensures) ∙ c .if1 .left) .0)
 
 refusal-requires : tie.Need-refusal-requires
 refusal-requires c κs = search needs

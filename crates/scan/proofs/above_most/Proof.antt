@@ -1,9 +1,9 @@
--- `rerank::above_most` meets its contract. Assumes nothing.
+-- `scan::above_most` meets its contract. Assumes nothing.
 use borrow.Author.Tests.{le-leb, lt-leb}
 use native.Mathlib.Omega.{arith}
 use Rattle.words.specs.Limits.{mostMark}
-use Rattle.rerank.proofs.above_most.Statement.{statement}
-use Rattle.rerank.proofs.above_most.Tie as tie
+use Rattle.scan.proofs.above_most.Statement.{statement}
+use Rattle.scan.proofs.above_most.Tie as tie
 
 returns : tie.Need-returns
 returns c = (rw (le-leb _ mostMark (c .if1 .taken)), omega arith)

@@ -1,13 +1,13 @@
--- `rerank::scan_lists` meets its contract. The loop's invariant: the scan is that of the places passed. Assumes nothing.
+-- `scan::scan_lists` meets its contract. The loop's invariant: the scan is that of the places passed. Assumes nothing.
 use mathlib.Core.Path.{_≡_, refl}
 use Prim.Native.Nat.{_≤_, _-_}
 use native.Mathlib.Omega.{arith}
 use lib.ListN.{length}
-use Rattle.rerank.specs.Parts.{ScanTo}
-use Rattle.rerank.proofs.ScanLaws.{sized-of, scan-none, scan-few, scan-more}
+use Rattle.scan.specs.Parts.{ScanTo}
+use Rattle.scan.proofs.ScanLaws.{scan-none, scan-few, scan-more}
 use borrow.Author.Needs.{needs}
-use Rattle.rerank.proofs.scan_lists.Statement.{statement}
-use Rattle.rerank.proofs.scan_lists.Tie as tie
+use Rattle.scan.proofs.scan_lists.Statement.{statement}
+use Rattle.scan.proofs.scan_lists.Tie as tie
 
 abbrev Inv-loop : tie.InvT-loop
 Inv-loop e d m n s₀ i₀ s i = (n ≡ length m) × (i ≤ n) × ScanTo e d m i s
@@ -32,7 +32,7 @@ add-keys-requires c κs =
 
 add-block-requires : tie.Need-add-block-requires Inv-loop μ-loop
 add-block-requires c κs =
-    let z = sized-of _ _ _ (c .before .before .before .before .before .before .before .before .pre) in
+    let z = c .before .before .before .before .before .before .before .before .pre in
     let k = c .before .count-marks .ensures in
     omega (arith, scan-few _ _ _ _ _ (c .before .before .before .before .loop .inv .2))
 

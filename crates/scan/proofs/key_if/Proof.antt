@@ -1,7 +1,7 @@
--- `rerank::key_if` meets its contract. Assumes nothing.
+-- `scan::key_if` meets its contract. Assumes nothing.
 use borrow.Author.Needs.{needs}
-use Rattle.rerank.proofs.key_if.Statement.{statement}
-use Rattle.rerank.proofs.key_if.Tie as tie
+use Rattle.scan.proofs.key_if.Statement.{statement}
+use Rattle.scan.proofs.key_if.Tie as tie
 
 key-requires : tie.Need-key-requires
 key-requires c κs = search needs

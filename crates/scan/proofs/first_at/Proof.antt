@@ -1,13 +1,13 @@
--- `rerank::first_at` meets its contract. The loop's invariant: no place passed has the key. Assumes nothing.
+-- `scan::first_at` meets its contract. The loop's invariant: no place passed has the key. Assumes nothing.
 use mathlib.Core.Path.{_≡_, refl}
 use Prim.Native.Nat.{ℕ, _≤_, _<_, _-_}
 use native.Mathlib.Omega.{arith}
 use lib.ListN.{length}
-use Rattle.rerank.specs.Parts.{keyAt}
-use Rattle.rerank.proofs.ScanLaws.{key-at, first-none, first-more, first-found, first-nowhere}
+use Rattle.scan.specs.Parts.{keyAt}
+use Rattle.scan.proofs.ScanLaws.{key-at, first-none, first-more, first-found, first-nowhere}
 use borrow.Author.Needs.{needs}
-use Rattle.rerank.proofs.first_at.Statement.{statement}
-use Rattle.rerank.proofs.first_at.Tie as tie
+use Rattle.scan.proofs.first_at.Statement.{statement}
+use Rattle.scan.proofs.first_at.Tie as tie
 
 abbrev Inv-loop : tie.InvT-loop
 Inv-loop s m k key from n i₀ i = (n ≡ length m) × ((q : ℕ) → from ≤ q → q < i → keyAt k s m q ≡ key → ⊥)

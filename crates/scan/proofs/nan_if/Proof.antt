@@ -1,7 +1,7 @@
--- `rerank::nan_if` meets its contract. Assumes nothing.
+-- `scan::nan_if` meets its contract. Assumes nothing.
 use borrow.Author.Needs.{needs}
-use Rattle.rerank.proofs.nan_if.Statement.{statement}
-use Rattle.rerank.proofs.nan_if.Tie as tie
+use Rattle.scan.proofs.nan_if.Statement.{statement}
+use Rattle.scan.proofs.nan_if.Tie as tie
 
 nan-one-requires : tie.Need-nan-one-requires
 nan-one-requires c κs = search needs

@@ -1,8 +1,8 @@
--- `rerank::not_zero` meets its contract. Assumes nothing.
+-- `scan::not_zero` meets its contract. Assumes nothing.
 use borrow.Author.Tests.{eq-eqb, ne-eqb}
 use native.Mathlib.Omega.{arith}
-use Rattle.rerank.proofs.not_zero.Statement.{statement}
-use Rattle.rerank.proofs.not_zero.Tie as tie
+use Rattle.scan.proofs.not_zero.Statement.{statement}
+use Rattle.scan.proofs.not_zero.Tie as tie
 
 returns : tie.Need-returns
 returns c = (rw (eq-eqb _ _ (c .if1 .taken)), omega arith)

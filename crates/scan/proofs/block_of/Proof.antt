@@ -1,7 +1,7 @@
--- `rerank::block_of` meets its contract. Assumes nothing.
+-- `scan::block_of` meets its contract. Assumes nothing.
 use borrow.Author.Tests.{lt-ltb, le-ltb}
-use Rattle.rerank.proofs.block_of.Statement.{statement}
-use Rattle.rerank.proofs.block_of.Tie as tie
+use Rattle.scan.proofs.block_of.Statement.{statement}
+use Rattle.scan.proofs.block_of.Tie as tie
 
 returns : tie.Need-returns
 returns c = rw (lt-ltb _ _ (c .if1 .taken))

@@ -1,13 +1,13 @@
--- `rerank::add_keys` meets its contract. The loop's invariant: the keys are those of the places passed. Assumes nothing.
+-- `scan::add_keys` meets its contract. The loop's invariant: the keys are those of the places passed. Assumes nothing.
 use mathlib.Core.Path.{_≡_, refl}
 use Prim.Native.Nat.{_≤_, _-_}
 use native.Mathlib.Omega.{arith}
 use lib.ListN.{length}
-use Rattle.rerank.specs.Parts.{KeysTo}
-use Rattle.rerank.proofs.ScanLaws.{sized-of, keys-few, keys-more}
+use Rattle.scan.specs.Parts.{KeysTo}
+use Rattle.scan.proofs.ScanLaws.{keys-few, keys-more}
 use borrow.Author.Needs.{needs}
-use Rattle.rerank.proofs.add_keys.Statement.{statement}
-use Rattle.rerank.proofs.add_keys.Tie as tie
+use Rattle.scan.proofs.add_keys.Statement.{statement}
+use Rattle.scan.proofs.add_keys.Tie as tie
 
 abbrev Inv-loop : tie.InvT-loop
 Inv-loop e d m from to s₀ i₀ s i = (from ≤ i) × (i ≤ to) × (to ≤ length m) × KeysTo e d m i s
@@ -22,22 +22,22 @@ shared-slice-read-one-more : tie.Need-shared-slice-read-one-more Inv-loop μ-loo
 shared-slice-read-one-more c = search needs
 
 mul-u32-at : tie.Need-mul-u32-at Inv-loop μ-loop
-mul-u32-at c = let z = sized-of _ _ _ (c .before .before .before .before .before .before .pre .0) in omega arith
+mul-u32-at c = let z = c .before .before .before .before .before .before .pre .0 in omega arith
 
 u32-at-requires : tie.Need-u32-at-requires Inv-loop μ-loop
-u32-at-requires c κs = let z = sized-of _ _ _ (c .before .before .before .before .before .before .pre .0) in omega arith
+u32-at-requires c κs = let z = c .before .before .before .before .before .before .pre .0 in omega arith
 
 mul-u32-at-2 : tie.Need-mul-u32-at-2 Inv-loop μ-loop
-mul-u32-at-2 c = let z = sized-of _ _ _ (c .before .before .before .before .before .before .before .pre .0) in omega arith
+mul-u32-at-2 c = let z = c .before .before .before .before .before .before .before .pre .0 in omega arith
 
 u32-at-requires-2 : tie.Need-u32-at-requires-2 Inv-loop μ-loop
-u32-at-requires-2 c κs = let z = sized-of _ _ _ (c .before .before .before .before .before .before .before .pre .0) in omega arith
+u32-at-requires-2 c κs = let z = c .before .before .before .before .before .before .before .pre .0 in omega arith
 
 one-more-requires : tie.Need-one-more-requires Inv-loop μ-loop
 one-more-requires c κs =
     let pre = c .before .before .before .before .before .before .before .before .pre in
     let loop = c .before .before .before .before .loop .inv in
-    let z = sized-of _ _ _ (pre .0) in
+    let z = pre .0 in
     omega (arith, keys-few _ _ _ _ _ (loop .3))
 
 add-i : tie.Need-add-i Inv-loop μ-loop

@@ -1,10 +1,10 @@
--- `rerank::one_more` meets its contract. Assumes nothing.
+-- `scan::one_more` meets its contract. Assumes nothing.
 use mathlib.Core.Path.{ap, _∙_}
 use native.Mathlib.Omega.{arith}
-use Rattle.rerank.specs.Parts.{lesser, lacks}
+use Rattle.scan.specs.Parts.{lesser, lacks}
 use borrow.Author.Needs.{needs}
-use Rattle.rerank.proofs.one_more.Statement.{statement}
-use Rattle.rerank.proofs.one_more.Tie as tie
+use Rattle.scan.proofs.one_more.Statement.{statement}
+use Rattle.scan.proofs.one_more.Tie as tie
 
 key-if-requires : tie.Need-key-if-requires
 key-if-requires c κs = search needs

@@ -1,9 +1,9 @@
--- `rerank::key` meets its contract. Assumes nothing.
-use Rattle.rerank.proofs.ScanLaws.{key-up, key-down}
+-- `scan::key` meets its contract. Assumes nothing.
+use Rattle.scan.proofs.ScanLaws.{key-up, key-down}
 use native.Mathlib.Omega.{arith}
 use borrow.Author.Needs.{needs}
-use Rattle.rerank.proofs.key.Statement.{statement}
-use Rattle.rerank.proofs.key.Tie as tie
+use Rattle.scan.proofs.key.Statement.{statement}
+use Rattle.scan.proofs.key.Tie as tie
 
 add-result : tie.Need-add-result
 add-result c = search needs

@@ -14,7 +14,7 @@ use lib.Ieee.{Float, nan, inf, fin, up, down, below, lt, nanBits, odd, ofFields,
 use lib.Ieee.Bits.{nanBits-above}
 use lib.Ieee.Exact.{HasValue, odd-sign}
 use lib.Ieee.Fits.{down-pos}
-use Rattle.rerank.specs.Parts.{keyOf, noKey}
+use Rattle.scan.specs.Parts.{keyOf, noKey}
 
 -- two tests that hold together
 pub ltb-same : (a b c d : ℕ) → (a < b → c < d) → (b ≤ a → d ≤ c) → ltb a b ≡ ltb c d

@@ -1,12 +1,12 @@
--- `rerank::count_marks` meets its contract. The loop's invariant: the counts are those of the marks passed. Assumes nothing.
+-- `scan::count_marks` meets its contract. The loop's invariant: the counts are those of the marks passed. Assumes nothing.
 use mathlib.Core.Path.{_≡_}
 use Prim.Native.Nat.{_≤_, _-_}
 use native.Mathlib.Omega.{arith}
-use Rattle.rerank.specs.Parts.{CountsOf}
-use Rattle.rerank.proofs.ScanLaws.{counts-first, counts-more}
+use Rattle.scan.specs.Parts.{CountsOf}
+use Rattle.scan.proofs.ScanLaws.{counts-first, counts-more}
 use borrow.Author.Needs.{needs}
-use Rattle.rerank.proofs.count_marks.Statement.{statement}
-use Rattle.rerank.proofs.count_marks.Tie as tie
+use Rattle.scan.proofs.count_marks.Statement.{statement}
+use Rattle.scan.proofs.count_marks.Tie as tie
 
 abbrev Inv-loop : tie.InvT-loop
 Inv-loop m from to bad₀ count₀ i₀ bad count i = (from ≤ i) × (i ≤ to) × CountsOf m from i bad count

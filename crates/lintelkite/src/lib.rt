@@ -88,7 +88,7 @@ pub extern "C" fn lk_scalar_table(
     ensures { λ r. ⌜ (r, now (table .exit))
         ≡ scalar.tableAnswer metric dims bits (now (vector .entry)) (now (min .entry)) (now (max .entry)) (now (table .entry)) ⌝ }
 {
-    scalar::scalar_table(metric, dims, bits, vector, min, max, table)
+    tables::scalar_table(metric, dims, bits, vector, min, max, table)
 }
 
 #[no_mangle]
@@ -102,7 +102,7 @@ pub extern "C" fn lk_scalar_distance(
 ) -> u32
     ensures { λ r. ⌜ (r, now (out .exit)) ≡ scalar.distanceAnswer metric dims bits (now (table .entry)) (now (code .entry)) (now (out .entry)) ⌝ }
 {
-    scalar::scalar_distance(metric, dims, bits, table, code, out)
+    tables::scalar_distance(metric, dims, bits, table, code, out)
 }
 
 // ---- module 3, square root

@@ -1,7 +1,7 @@
 -- The paper's ranges, as the walk writes their ids: 31..33 has 31 and 32; 0..0, 5..5 and 64..32 have none, and then the whole answer is
 -- `empty-range` of AnswerLaws. Assumes nothing.
 use mathlib.Core.Path.{_≡_, refl}
-use mathlib.Core.List.{List, [], _∷_, map}
+use mathlib.Core.List.{[], _∷_, map}
 use Prim.Native.Nat.{ℕ, _+_, _-_}
 use Rattle.words.specs.Bytes.{bytesOf, wordsOf}
 use Rattle.words.specs.Lists.{joined}

@@ -12,7 +12,8 @@ use Rattle.words.proofs.ListLaws.{record-byte}
 use Rattle.words.proofs.DigitLaws.{lt-or-ge, kept-lt, bits-lt, join-ext, join-kept, join-halves}
 use Rattle.code.specs.Code.{codeSize, codeBit}
 use Rattle.code.proofs.CodeLaws.{code-bit-lt, byte-bit}
-use Rattle.block.specs.Block.{groupNibble, groupByte, blockByte, packedBlockByte}
+use Rattle.block.specs.Block.{groupNibble, groupByte, blockByte}
+use Rattle.block.specs.Parts.{packedBlockByte}
 
 -- the half of eight digits that belongs to group g is four of them
 half-join : (f : ℕ → ℕ) → ((i : ℕ) → f i < 2) → (g : ℕ) → join 1 8 f / 16 ^ (g % 2) % 16 ≡ join 1 4 (λ i. f (4 * (g % 2) + i))

@@ -10,11 +10,11 @@ use borrow.Author.Tests.{lt-ltb, le-ltb}
 use Rattle.words.specs.Digits.{bit, kept}
 use Rattle.words.specs.Lists.{joined, recordOf}
 use Rattle.words.proofs.ListLaws.{joined-at, tabulate-at, tabulate-ext, filled}
-use Rattle.words.proofs.DigitLaws.{join-whole, lt-or-ge, kept-in, kept-lt, kept-ext, bits-lt, join-ext, bit-join}
+use Rattle.words.proofs.DigitLaws.{join-whole, lt-or-ge, kept-in, kept-out, kept-lt, kept-ext, bits-lt, join-ext, bit-join}
 use Rattle.code.specs.Code.{codeSize, codeBit, codeOf, clearedCode}
 use Rattle.code.proofs.CodeLaws.{code-bit-lt, code-ext, length-code, factor-of-code, bit-of-code, made-cleared}
 use Rattle.block.specs.Block.{blockGroups, blockSize, laneFactor, laneNibble, laneBit, laneCode, groupNibble, groupByte, blockByte, blockOf}
-use Rattle.block.specs.Block.{packedBlockByte, packedBlock, clearedBlock, lanesOf}
+use Rattle.block.specs.Block.{packedBlock, clearedBlock, lanesOf}
 use Rattle.block.proofs.LaneLaws.{lane-bit-lt, lane-bit-at, nibble-lt, nibble-low, nibble-high}
 
 -- ---- a block made of factor bytes and bits
@@ -64,14 +64,19 @@ module _ (dims : ℕ) (f b : ℕ → ℕ → ℕ) where
             ∙ nibble-high (blockOf dims f b) (k - 16) g (omega arith) (omega (arith, e, group-nibble-lt g (k - 16), group-nibble-lt g (k - 16 + 16)))
             ∙ omega (arith, e, group-nibble-lt g (k - 16)) ∙ ap (groupNibble dims b g) back
 
-    -- and so are the bits
-    pub bit-of-block : (k d : ℕ) → k < 32 → d < dims → laneBit (blockOf dims f b) k d ≡ b k d
+    digit-of-block : (k d : ℕ) → k < 32 → d < 4 * blockGroups dims → laneBit (blockOf dims f b) k d ≡ kept dims (b k) d
     unfolding laneBit groupNibble
-    bit-of-block k d hk hd =
+    digit-of-block k d hk hd =
         let back : 4 * (d / 4) + d % 4 ≡ d = omega arith in
         ap (λ (x : ℕ). bit x (d % 4)) (nibble-of-block (d / 4) k (omega arith) hk)
-        ∙ bit-join 4 (d % 4) (λ i. kept dims (b k) (4 * (d / 4) + i)) (nibble-two (d / 4) k) (omega arith)
-        ∙ ap (kept dims (b k)) back ∙ kept-in dims (b k) d hd
+        ∙ bit-join 4 (d % 4) (λ i. kept dims (b k) (4 * (d / 4) + i)) (nibble-two (d / 4) k) (omega arith) ∙ ap (kept dims (b k)) back
+
+    -- and so are the bits, and the pad bits are 0
+    pub bit-of-block : (k d : ℕ) → k < 32 → d < dims → laneBit (blockOf dims f b) k d ≡ b k d
+    bit-of-block k d hk hd = digit-of-block k d hk (omega arith) ∙ kept-in dims (b k) d hd
+
+    pad-of-block : (k d : ℕ) → k < 32 → dims ≤ d → d < 4 * blockGroups dims → laneBit (blockOf dims f b) k d ≡ 0
+    pad-of-block k d hk l hd = digit-of-block k d hk hd ∙ kept-out dims (b k) d l
 
 nibble-ext : (dims : ℕ) (b b′ : ℕ → ℕ → ℕ) (g k : ℕ) → ((d : ℕ) → d < dims → b k d ≡ b′ k d) → groupNibble dims b g k ≡ groupNibble dims b′ g k
 unfolding groupNibble
@@ -121,7 +126,7 @@ byte-of dims b g j = refl
 
 pub lane-of-packed : (dims : ℕ) (codes : List ℕ) (k : ℕ) → k < 32
     → laneCode dims (packedBlock dims codes) k ≡ clearedCode dims (recordOf (codeSize dims) codes k)
-unfolding laneCode packedBlock packedBlockByte blockOf clearedCode
+unfolding laneCode packedBlock clearedCode
 lane-of-packed dims codes k h =
     code-ext dims (laneFactor (packedBlock dims codes) k) (λ i. getD (recordOf (codeSize dims) codes k) i 0)
     (laneBit (packedBlock dims codes) k) (codeBit (recordOf (codeSize dims) codes k))
@@ -140,7 +145,7 @@ code-of-lanes dims block k h =
     joined-at (codeSize dims) 32 k (laneCode dims block) (λ k _. length-code dims (laneFactor block k) (laneBit block k)) h
 
 pub packed-of-lanes : (dims : ℕ) (block : List ℕ) → packedBlock dims (lanesOf dims block) ≡ clearedBlock dims block
-unfolding packedBlock packedBlockByte blockOf clearedBlock laneCode
+unfolding packedBlock clearedBlock laneCode
 packed-of-lanes dims block =
     block-ext dims (λ k i. getD (recordOf (codeSize dims) lanes k) i 0) (laneFactor block) (λ k. codeBit (recordOf (codeSize dims) lanes k)) (laneBit block)
     (λ k i h l. ap (λ (c : List ℕ). getD c i 0) (code-of-lanes dims block k h) ∙ factor-of-code dims (laneFactor block k) (laneBit block k) i l)
@@ -155,6 +160,13 @@ pub round-trip : (dims : ℕ)
     → ((codes : List ℕ) (k : ℕ) → k < 32 → laneCode dims (packedBlock dims codes) k ≡ clearedCode dims (recordOf (codeSize dims) codes k))
     × ((block : List ℕ) → packedBlock dims (lanesOf dims block) ≡ clearedBlock dims block)
 round-trip dims = (lane-of-packed dims, packed-of-lanes dims)
+
+-- a packed block's pad bits are 0, whatever its codes have there
+pub pad-of-packed : (dims : ℕ) (codes : List ℕ) (k d : ℕ) → k < 32 → dims ≤ d → d < 4 * blockGroups dims → laneBit (packedBlock dims codes) k d ≡ 0
+unfolding packedBlock
+pad-of-packed dims codes =
+    pad-of-block dims (λ k i. getD (recordOf (codeSize dims) codes k) i 0) (λ k. codeBit (recordOf (codeSize dims) codes k))
+    (λ k d. code-bit-lt (recordOf (codeSize dims) codes k) d)
 
 -- so 32 codes that were made with pad bits 0, as encode makes them, come back as they are
 pub coded-back : (dims : ℕ) (f b : ℕ → ℕ → ℕ) → ((k d : ℕ) → b k d < 2) → (k : ℕ) → k < 32

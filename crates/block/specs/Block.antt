@@ -35,12 +35,15 @@ laneCode dims block k = codeOf dims (laneFactor block k) (laneBit block k)
 
 -- ---- the block whose lane k has the factor bytes f k and the bits b k: pad bits are 0
 
+-- the nibble of lane k in group g
 unfoldable pub groupNibble : ℕ → (ℕ → ℕ → ℕ) → ℕ → ℕ → ℕ
 groupNibble dims b g k = join 1 4 (λ i. kept dims (b k) (4 * g + i))
 
+-- byte j of group g
 unfoldable pub groupByte : ℕ → (ℕ → ℕ → ℕ) → ℕ → ℕ → ℕ
 groupByte dims b g j = groupNibble dims b g j + 16 * groupNibble dims b g (j + 16)
 
+-- byte i: of the factors, or of the groups
 unfoldable pub blockByte : ℕ → (ℕ → ℕ → ℕ) → (ℕ → ℕ → ℕ) → ℕ → ℕ
 blockByte dims f b i =
     cond (ltb i 512) (f (i % 128 / 4) (4 * (i / 128) + i % 4)) (groupByte dims b ((i - 512) / 16) ((i - 512) % 16))
@@ -48,13 +51,10 @@ blockByte dims f b i =
 unfoldable pub blockOf : ℕ → (ℕ → ℕ → ℕ) → (ℕ → ℕ → ℕ) → List ℕ
 blockOf dims f b = tabulate (blockSize dims) (blockByte dims f b)
 
--- byte i of the block built from 32 codes laid end to end, and the block
-unfoldable pub packedBlockByte : ℕ → List ℕ → ℕ → ℕ
-packedBlockByte dims codes =
-    blockByte dims (λ k i. getD (recordOf (codeSize dims) codes k) i 0) (λ k. codeBit (recordOf (codeSize dims) codes k))
-
+-- the block built from 32 codes laid end to end
 unfoldable pub packedBlock : ℕ → List ℕ → List ℕ
-packedBlock dims codes = tabulate (blockSize dims) (packedBlockByte dims codes)
+packedBlock dims codes =
+    blockOf dims (λ k i. getD (recordOf (codeSize dims) codes k) i 0) (λ k. codeBit (recordOf (codeSize dims) codes k))
 
 -- a block with its pad bits 0
 unfoldable pub clearedBlock : ℕ → List ℕ → List ℕ

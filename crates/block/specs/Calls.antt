@@ -14,7 +14,8 @@ use Rattle.block.specs.Block.{blockSize, packedBlock, laneCode}
 abbrev pub sizeAnswer : ℕ → List ℕ → ℕ × List ℕ
 sizeAnswer dims out = table.sizeAnswer dims (blockSize dims) out
 
--- BAD_DIMS, BAD_LENGTH
+-- ---- pack: BAD_DIMS, BAD_LENGTH
+
 unfoldable pub packNumber : ℕ → List ℕ → List ℕ → ℕ
 packNumber dims codes block =
     cond (badDims mostDims dims) 1
@@ -23,7 +24,8 @@ packNumber dims codes block =
 unfoldable pub packAnswer : ℕ → List ℕ → List ℕ → ℕ × List ℕ
 packAnswer dims codes block = answer (packNumber dims codes block) block (packedBlock dims codes)
 
--- BAD_DIMS, BAD_LENGTH, OUT_OF_RANGE
+-- ---- a lane as a single code: BAD_DIMS, BAD_LENGTH, OUT_OF_RANGE
+
 unfoldable pub laneNumber : ℕ → List ℕ → ℕ → List ℕ → ℕ
 laneNumber dims block lane code =
     cond (badDims mostDims dims) 1

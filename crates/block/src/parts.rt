@@ -5,7 +5,8 @@ ghost use lib.ListN.{length, getD};
 ghost use Rattle.words.specs.Limits.{mostDims};
 ghost use Rattle.words.specs.Lists.{recordOf};
 ghost use Rattle.code.specs.Code.{codeSize, codeBit, codeByte};
-ghost use Rattle.block.specs.Block.{blockGroups, blockSize, laneFactor, laneNibble, laneBit, laneCode, groupNibble, packedBlockByte, packedBlock};
+ghost use Rattle.block.specs.Block.{blockGroups, blockSize, laneFactor, laneNibble, laneBit, laneCode, groupNibble, packedBlock};
+ghost use Rattle.block.specs.Parts.{packedBlockByte};
 use words::byte_at;
 
 pub fn size(dims: usize) -> usize

@@ -9,12 +9,17 @@ use Rattle.words.specs.Limits.{mostScalarDims}
 use Rattle.words.specs.Refusals.{answer, badDims, badLength}
 use Rattle.digits.specs.Digits.{isWidth, top, packedSize, digitAt, packed}
 
+-- ---- the size of packed codes: BAD_DIMS, BAD_WIDTH, BAD_LENGTH
+
 unfoldable pub sizeNumber : ℕ → ℕ → List ℕ → ℕ
 sizeNumber dims bits out = cond (badDims mostScalarDims dims) 1 (cond (not (isWidth bits)) 2 (cond (badLength out 4) 3 0))
 
 unfoldable pub sizeAnswer : ℕ → ℕ → List ℕ → ℕ × List ℕ
 sizeAnswer dims bits out = answer (sizeNumber dims bits out) out (bytesOf 4 (packedSize bits dims))
 
+-- ---- pack
+
+-- BAD_DIMS, BAD_WIDTH, BAD_LENGTH, BAD_VALUE (a code above the top)
 unfoldable pub packNumber : ℕ → ℕ → List ℕ → List ℕ → ℕ
 packNumber dims bits codes out =
     cond (badDims mostScalarDims dims) 1
@@ -25,6 +30,9 @@ packNumber dims bits codes out =
 unfoldable pub packAnswer : ℕ → ℕ → List ℕ → List ℕ → ℕ × List ℕ
 packAnswer dims bits codes out = answer (packNumber dims bits codes out) out (packed bits codes)
 
+-- ---- the digit of a dimension
+
+-- BAD_DIMS, BAD_WIDTH, BAD_LENGTH, OUT_OF_RANGE
 unfoldable pub readNumber : ℕ → ℕ → List ℕ → ℕ → List ℕ → ℕ
 readNumber dims bits s i out =
     cond (badDims mostScalarDims dims) 1

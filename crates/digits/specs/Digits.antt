@@ -43,6 +43,7 @@ unfoldable pub packedByte : ℕ → List ℕ → ℕ → ℕ
 unfolding join
 packedByte w codes k = join w (perByte w) (λ j. getD codes (k * perByte w + j) 0)
 
+-- the codes packed, each byte of them
 unfoldable pub packed : ℕ → List ℕ → List ℕ
 unfolding packedByte tabulate
 packed w codes = tabulate (packedSize w (length codes)) (packedByte w codes)

@@ -5,30 +5,27 @@ use Prim.Native.Nat.{ℕ, _+_, _*_, _≤_, _<_}
 use native.Mathlib.Omega.{arith}
 use mathlib.Core.List.{List}
 use lib.Dec.{T}
-use lib.ListN.{length, getD, take, drop}
+use lib.ListN.{length, getD, take}
 use lib.Seq.{sets, length-sets, take-all}
 use lib.IntN.{pos}
 use lib.Ieee.{Float, nan, inf, fin, binary32, inFloat, fits, isNan, lt, ofBits, toBits}
 use lib.Ieee.Fits.{add-fits, sub-fits}
 use borrow.Author.Tests.{le-leb}
-use Rattle.words.specs.Bytes.{f32At, bytesOf, floatBytes, wordsOf}
-use Rattle.words.specs.Floats.{notFinite, anyNan}
+use Rattle.words.specs.Bytes.{f32At, bytesOf, floatBytes, floatsOf}
+use Rattle.words.specs.Floats.{_⊕_, _⊗_, notFinite, anyNan}
 use Rattle.words.specs.Limits.{mostSum}
 use Rattle.words.specs.declared.Metric.{Metric}
 use Rattle.words.specs.declared.Metric.the-variants.{L2, Dot}
 use Rattle.words.proofs.ListLaws.{none-at}
 use Rattle.words.proofs.WordsLaws.{words-ext, words-more}
 use Rattle.code.specs.declared.parts.reader.Factors.{Factors}
-use Rattle.code.specs.Code.{codeBit, wordsBit}
-use Rattle.code.proofs.CodeLaws.{code-words-bit}
 use Rattle.sums.specs.Parts.{LaneSums}
 use Rattle.sums.specs.Sums.{plainSum}
-use Rattle.sums.proofs.PlainLaws.{plain-ext}
 use Rattle.estimate.specs.declared.Asked.{Asked}
 use Rattle.estimate.specs.declared.Asked.the-variants.{Rough, LowerBound}
 use Rattle.estimate.specs.declared.Query.{Query}
 use Rattle.estimate.specs.declared.Ready.{Ready}
-use Rattle.estimate.specs.Estimate.{_⊕_, _⊗_, halved, ppcTerm, ipTerm, rough, twoSMinusQ, lowerBound, estimate}
+use Rattle.estimate.specs.Estimate.{halved, ppcTerm, ipTerm, rough, twoSMinusQ, lowerBound, estimate}
 use Rattle.estimate.specs.Parts.{estimateWords, IsReady}
 use Rattle.estimate.specs.Record.{estimateOf, laneFactors, laneEstimate, laneWords}
 
@@ -69,14 +66,10 @@ unfolding laneWords laneEstimate
 lanes-same w m qs p block s out r h e =
     e ∙ words-ext 32 _ _ (λ k l. ap (toBits binary32) (ready-estimate w m qs p _ _ _ _ r refl (h .sums .each k l)))
 
--- the sum that is worked out from the word bytes
-pub words-sum : (qs code words : List ℕ) → words ≡ drop 16 code → plainSum qs (wordsBit words) ≡ plainSum qs (codeBit code)
-words-sum qs code words e = rw e (plain-ext qs (wordsBit (drop 16 code)) (codeBit code) (λ d l. sym (code-words-bit code d)))
-
 -- a turn of a loop that writes floats one after the other
 pub floats-more : (out out′ : List ℕ) (k : ℕ) (x : Float) (f : ℕ → Float) → 4 * k + 4 ≤ length out → out′ ≡ sets out (4 * k) (floatBytes x) → x ≡ f k
-    → take (4 * k) out ≡ wordsOf k (λ j. toBits binary32 (f j))
-    → (take (4 * (k + 1)) out′ ≡ wordsOf (k + 1) (λ j. toBits binary32 (f j))) × (length out′ ≡ length out)
+    → take (4 * k) out ≡ floatsOf k f
+    → (take (4 * (k + 1)) out′ ≡ floatsOf (k + 1) f) × (length out′ ≡ length out)
 unfolding floatBytes
 floats-more out out′ k x f h e ex w =
     rw (e, ex) (words-more out k (λ j. toBits binary32 (f j)) h w, length-sets out (4 * k) (bytesOf 4 (toBits binary32 (f k))))

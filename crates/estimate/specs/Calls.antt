@@ -2,9 +2,9 @@
 use Prim.Native.Nat.{ℕ}
 use mathlib.Core.Bool.{Bool, _||_, cond}
 use mathlib.Core.List.{List}
-use lib.Ieee.{isNan, lt, ofBits, binary32}
+use lib.Ieee.{isNan, lt}
 use Rattle.words.specs.Bytes.{floatBytes}
-use Rattle.words.specs.Floats.{notFinite}
+use Rattle.words.specs.Floats.{plusZero, notFinite}
 use Rattle.words.specs.Limits.{mostDims, topCode}
 use Rattle.words.specs.Lists.{anyAbove}
 use Rattle.words.specs.Metrics.{metricOf}
@@ -21,7 +21,7 @@ missingQuery v = notFinite (v .«dis_v_2») || notFinite (v .b) || notFinite (v 
 
 -- BAD_VALUE: dis_v_2 below 0, or a query code above 15
 unfoldable pub badQuery : Query → List ℕ → Bool
-badQuery v qs = lt (v .«dis_v_2») (ofBits binary32 0) || anyAbove topCode qs
+badQuery v qs = lt (v .«dis_v_2») plusZero || anyAbove topCode qs
 
 -- BAD_DIMS, BAD_LENGTH, MISSING, BAD_VALUE of a call with a query: `other` is that a buffer besides the query isn't of its length,
 -- `form` that a metric or a layout is none

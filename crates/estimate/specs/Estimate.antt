@@ -1,7 +1,8 @@
 -- Module 7, estimates: the paper's formulas. Each operation rounds once, from the left. s and q are the paper's S and Q.
 use Prim.Native.Nat.{ℕ}
 use lib.IntN.{pos}
-use lib.Ieee.{Float, nan, binary32, add, sub, mul, ofInt, ofBits}
+use lib.Ieee.{Float, nan, binary32, ofInt, ofBits}
+use Rattle.words.specs.Floats.{_⊕_, _⊖_, _⊗_}
 use Rattle.words.specs.declared.Metric.{Metric}
 use Rattle.words.specs.declared.Metric.the-variants.{L2, Dot}
 use Rattle.root.specs.Root.{rootOf, valueOr}
@@ -13,19 +14,6 @@ use Rattle.estimate.specs.declared.Query.{Query}
 -- the query record of three numbers
 abbrev pub queryOf : Float → Float → Float → Query
 queryOf d b k = record { «dis_v_2» = d; b = b; k = k }
-
-infixl 20 _⊕_
-infixl 20 _⊖_
-infixl 30 _⊗_
--- one rounding each
-abbrev pub _⊕_ : Float → Float → Float
-x ⊕ y = add binary32 x y
-
-abbrev pub _⊖_ : Float → Float → Float
-x ⊖ y = sub binary32 x y
-
-abbrev pub _⊗_ : Float → Float → Float
-x ⊗ y = mul binary32 x y
 
 -- 2, 0.5 and 1.9, by their bits
 abbrev pub two : Float

@@ -3,8 +3,7 @@ use mathlib.Core.Path.{_≡_}
 use Prim.Native.Nat.{ℕ, _≤_, _<_}
 use mathlib.Core.List.{List}
 use lib.ListN.{length, getD}
-use lib.Ieee.{toBits, binary32}
-use Rattle.words.specs.Bytes.{wordsOf}
+use Rattle.words.specs.Bytes.{floatsOf}
 use Rattle.words.specs.Limits.{mostSum}
 use Rattle.words.specs.declared.Metric.{Metric}
 use Rattle.sums.specs.Sums.{querySum}
@@ -28,4 +27,4 @@ pub record Fits (p : Ready) (s : List ℕ) : Type 0 where
 
 -- the estimates of the first n lanes, from their sums s
 abbrev pub estimateWords : ℕ → Asked → Metric → Ready → List ℕ → List ℕ → List ℕ
-estimateWords n w m p s block = wordsOf n (λ k. toBits binary32 (estimate w m (p .v) (laneFactors block k) (getD s k 0) (p .total)))
+estimateWords n w m p s block = floatsOf n (λ k. estimate w m (p .v) (laneFactors block k) (getD s k 0) (p .total))

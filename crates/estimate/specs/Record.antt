@@ -1,8 +1,8 @@
 -- The estimate of a record in bytes: of a single code, and of a lane of a block.
 use Prim.Native.Nat.{ℕ, _+_}
 use mathlib.Core.List.{List}
-use lib.Ieee.{Float, toBits, binary32}
-use Rattle.words.specs.Bytes.{f32At, wordsOf}
+use lib.Ieee.{Float}
+use Rattle.words.specs.Bytes.{f32At, floatsOf}
 use Rattle.words.specs.declared.Metric.{Metric}
 use Rattle.code.specs.declared.parts.reader.Factors.{Factors}
 use Rattle.code.specs.Code.{codeBit}
@@ -17,6 +17,7 @@ use Rattle.estimate.specs.Estimate.{estimate}
 unfoldable pub estimateOf : Asked → Metric → Query → List ℕ → Factors → (ℕ → ℕ) → Float
 estimateOf w m v qs f b = estimate w m v f (plainSum qs b) (querySum qs)
 
+-- of a single code
 unfoldable pub codeEstimate : Asked → Metric → Query → List ℕ → List ℕ → Float
 codeEstimate w m v qs code = estimateOf w m v qs (factorsAt code) (codeBit code)
 
@@ -29,9 +30,10 @@ laneFactors block k = record {
   «factor_err» = f32At block (96 + k);
 }
 
+-- of lane k of a block
 unfoldable pub laneEstimate : Asked → Metric → Query → List ℕ → List ℕ → ℕ → Float
 laneEstimate w m v qs block k = estimateOf w m v qs (laneFactors block k) (laneBit block k)
 
 -- the estimates of the 32 lanes, lane 0 first, four bytes each
 unfoldable pub laneWords : Asked → Metric → Query → List ℕ → List ℕ → List ℕ
-laneWords w m v qs block = wordsOf 32 (λ k. toBits binary32 (laneEstimate w m v qs block k))
+laneWords w m v qs block = floatsOf 32 (laneEstimate w m v qs block)

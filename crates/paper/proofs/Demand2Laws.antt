@@ -1,8 +1,9 @@
 -- Demand 2 holds. Assumes nothing.
 use Rattle.digits.proofs.DigitLaws.{read-packed}
 use Rattle.scalar.proofs.TableLaws.{table-back}
-use Rattle.code.proofs.CodeLaws.{word-bit, pad-of-code, code-cleared}
-use Rattle.block.proofs.RoundLaws.{lane-of-packed, packed-of-lanes, block-cleared}
+use Rattle.code.proofs.CodeLaws.{word-bit, pad-of-code, code-cleared, sign-lt}
+use Rattle.block.proofs.LaneLaws.{lane-bit-lt}
+use Rattle.block.proofs.RoundLaws.{lane-of-packed, packed-of-lanes, pad-of-packed, block-cleared}
 use Rattle.sums.proofs.SumsLaws.{counted}
 use Rattle.estimate.proofs.AgreeLaws.{lane-or-none}
 use Rattle.walk.proofs.PackedLaws.{packed-walk}
@@ -15,7 +16,7 @@ use lib.ListN.{length, getD, take, drop, length-drop}
 use lib.Seq.{length-take-le, getD-drop}
 use Rattle.words.specs.Lists.{recordOf}
 use Rattle.code.specs.Code.{codeSize, signClear}
-use Rattle.block.specs.Block.{laneCode, packedBlock}
+use Rattle.block.specs.Block.{laneFactor, laneBit, laneCode, packedBlock}
 use Rattle.paper.specs.Demand2.{Bytes, ZeroPads, Demand2}
 
 nothing : (i : ℕ) → getD {A = ℕ} [] i 0 < 256
@@ -43,9 +44,9 @@ code-same dims codes k size byte h pad = lane-of-packed dims codes k h ∙ code-
     bytes : Bytes (recordOf (codeSize dims) codes k)
     bytes = bytes-take (codeSize dims) (drop (codeSize dims * k) codes) (bytes-drop (codeSize dims * k) codes byte)
 
-sign-lt : (vector : List ℕ) (d : ℕ) → signClear vector d < 2
-unfolding signClear
-sign-lt vector d = omega arith
+lane-zero : (dims : ℕ) (block : List ℕ) (k : ℕ) → ZeroPads dims (laneCode dims block k)
+unfolding laneCode
+lane-zero dims block k = pad-of-code dims (laneFactor block k) (laneBit block k) (lane-bit-lt block k)
 
 pub demand-2 : Demand2
 demand-2 =
@@ -63,6 +64,8 @@ demand-2 =
       block-back = packed-of-lanes;
       code-again = code-same;
       block-again = λ dims block size byte pad. packed-of-lanes dims block ∙ block-cleared dims block size byte pad;
+      lane-pads = lane-zero;
+      packed-pads = pad-of-packed;
       encoded-pads = λ dims factors vector. pad-of-code dims (λ i. getD factors i 0) (signClear vector) (sign-lt vector);
       lane-estimate = λ asked metric dims v query block out lanes one k. lane-or-none asked metric dims v query block out lanes one k;
       walks = packed-walk;

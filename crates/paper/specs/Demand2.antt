@@ -59,7 +59,9 @@ pub record Demand2 : Type 0 where
       → ZeroPads dims (recordOf (codeSize dims) codes k) → laneCode dims (packedBlock dims codes) k ≡ recordOf (codeSize dims) codes k
   pub block-again : (dims : ℕ) (block : List ℕ) → length block ≡ blockSize dims → Bytes block → ZeroBlockPads dims block
       → packedBlock dims (lanesOf dims block) ≡ block
-  -- and every code that encode makes, from these factors and this vector, has pad bits 0
+  -- and these have pad bits 0: a lane that is read back, a block that is packed, and every code that encode makes, from these factors and this vector
+  pub lane-pads : (dims : ℕ) (block : List ℕ) (k : ℕ) → ZeroPads dims (laneCode dims block k)
+  pub packed-pads : (dims : ℕ) (codes : List ℕ) → ZeroBlockPads dims (packedBlock dims codes)
   pub encoded-pads : (dims : ℕ) (factors vector : List ℕ) → ZeroPads dims (codeOf dims (λ i. getD factors i 0) (signClear vector))
   -- a lane of a block gives the estimate of its single code: the same bits, or a NaN where the single call refuses with 8
   pub lane-estimate : (asked : Asked) (metric dims : ℕ) (v : Query) (query block out lanes one : List ℕ) (k : ℕ)

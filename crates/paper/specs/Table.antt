@@ -106,7 +106,7 @@ pub record Table : Type 0 where
   pub sum-by-planes : planeCount query (wordsAt code) ≡ 26
   -- Q 27
   pub query-sum : querySum query ≡ 27
-  -- 4,369 codes of 15, all bits set: 65,535
+  -- 4,369 codes of 15, all bits set: 65,535. (The bits are given as the words alone: the sum reads no factor)
   pub greatest-sum : plainSum (replicate 4369 15) (wordsBit (replicate (8 * codeWords 4369) 255)) ≡ 65535
   -- width 4, codes 1, 2, 3: bytes 0x21, 0x03
   pub width-4 : packed 4 (1 ∷ 2 ∷ 3 ∷ []) ≡ 0x21 ∷ 0x03 ∷ []

@@ -11,6 +11,7 @@ ghost use Rattle.words.specs.Sums.{sumTo};
 ghost use Rattle.code.specs.Code.{codeWords, codeSize, codeBit, wordsBit};
 ghost use Rattle.sums.specs.Sums.{plainSum, planeWord, QueryCodes};
 ghost use Rattle.planes.specs.Parts.{PlaneAt, Planes};
+use code::parts::reader::words_of;
 use words::MOST_DIMS;
 use words::u32_at;
 use words::u64_at;
@@ -137,5 +138,5 @@ pub fn code_sum(q: &[u8], code: &[u8], t: &mut [u64]) -> u32
     ensures { λ r. ⌜ r ≡ plainSum (now (q .entry)) (codeBit (now (code .entry))) ⌝ }
 {
     binarize(q, t);
-    asymmetric_binary_dot_product(q, t, &code[16..])
+    asymmetric_binary_dot_product(q, t, words_of(code))
 }

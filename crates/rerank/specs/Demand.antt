@@ -35,7 +35,7 @@ pub record Always (s : State) (es : List Event) : Type 0 where
   pub one-by-one : (fs gs : List Event) (p : ℕ) (d : Float) → es ≡ fs ++ gs → supplyRefusal (ran s fs) p d ≡ 0 → answerOf (ran s fs) ≡ Ask p
   -- exact: what is handed out is the distance that was supplied for it
   pub exact : (fs gs : List Event) (p : ℕ) (d : Float) → es ≡ fs ++ (gave p d ∷ gs) → Supplied p d fs
-  -- when one is handed out at d, every candidate with an estimate below d has been asked for
+  -- when one is handed out at d, every candidate with an estimate below d has been asked for (its mark is not 0)
   pub below : (fs gs : List Event) (p q : ℕ) (d : Float) → es ≡ fs ++ (gave p d ∷ gs) → q < s .size → lt (s .estimate q) d ≡ true
       → ran s fs .mark q ≡ 0 → ⊥
   -- if x is given and later y, and y's distance is less, then y's own estimate was above y's distance
@@ -46,7 +46,7 @@ pub record Always (s : State) (es : List Event) : Type 0 where
 pub record Ordered (s : State) (es : List Event) : Type 0 where
   -- distances never fall
   pub rising : (fs gs hs : List Event) (x y : ℕ) (dx dy : Float) → es ≡ fs ++ (gave x dx ∷ (gs ++ (gave y dy ∷ hs))) → lt dy dx ≡ false
-  -- when one is handed out at d, no candidate with an estimate above d has been asked for
+  -- when one is handed out at d, no candidate with an estimate above d has been asked for (its mark is 0)
   pub above : (fs gs : List Event) (p q : ℕ) (d : Float) → es ≡ fs ++ (gave p d ∷ gs) → q < s .size → lt d (s .estimate q) ≡ true
       → ran s fs .mark q ≡ 0
 
@@ -75,6 +75,7 @@ pub data Call : Type 0 where
   next : List ℕ → Call
   supplies : ℕ → ℕ → List ℕ → Call
 
+-- the state that the lists hold
 abbrev pub held : Lists → State
 held b = stateOf (b .estimates) (b .distances) (b .marks)
 
@@ -92,7 +93,7 @@ call b (supplies place bits out) =
     let r = supplyAnswer (b .estimates) (b .distances) (b .marks) place (ofBits binary32 bits) out in
     record { number = r .0; lists = record { estimates = b .estimates; distances = r .1; marks = r .2 }; out = r .3 }
 
--- the event that next's bytes tell: 1 Ask, 2 Give, 0 Done, then the place and the distance
+-- the event that next's bytes tell: 1 Ask, 2 Give, 0 Done, then the place (byte 4) and the distance (float 2, byte 8)
 unfoldable pub told : List ℕ → Event
 told out = cond (eqb (numAt 4 out 0) 1) (asked (numAt 4 out 4)) (cond (eqb (numAt 4 out 0) 2) (gave (numAt 4 out 4) (f32At out 2)) done)
 

@@ -105,6 +105,7 @@ counted s = sumTo (s .size) (λ i. oneOrTwo (s .mark i))
 
 -- ---- runs of accepted calls
 
+-- next answered Ask, a distance was supplied, next answered Give, next answered Done
 pub data Event : Type 0 where
   asked : ℕ → Event
   supply : ℕ → Float → Event
@@ -118,6 +119,7 @@ Accepted s (supply p d) = supplyRefusal s p d ≡ 0
 Accepted s (gave p d) = (nextRefusal s ≡ 0) × (answerOf s ≡ Give p d)
 Accepted s done = (nextRefusal s ≡ 0) × (answerOf s ≡ Done)
 
+-- the state after one accepted call, and after a list of them
 unfoldable pub then : State → Event → State
 then s (asked p) = s
 then s (supply p d) = supplied s p d
@@ -129,6 +131,7 @@ unfolding then
 ran s [] = s
 ran s (e ∷ es) = ran (then s e) es
 
+-- each call of the list is accepted in the state that those before it left
 unfoldable pub Run : State → List Event → Type 0
 unfolding Accepted then
 Run s [] = Unit {0}

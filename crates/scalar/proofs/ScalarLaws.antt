@@ -1,30 +1,29 @@
 -- Laws of specs/Code and specs/Table that the workers' proofs cite. Assumes nothing.
-use Prim.Native.Nat.{ℕ, zero, suc, _+_, _*_, _/_, _%_, _^_, _≤_, _<_}
+use Prim.Native.Nat.{ℕ, _+_, _*_, _/_, _%_, _^_, _≤_, _<_}
 use mathlib.Core.Bool.{true, false, _||_}
 use mathlib.Core.List.{List}
 use mathlib.Core.Path.{_≡_, refl, sym, ap, _∙_}
 use native.Mathlib.Omega.{arith}
-use native.Mathlib.Numerals.{add-one}
-use native.Mathlib.Nat.{mul-le-mul-right}
+use native.Mathlib.Nat.{mul-comm, mul-le-mul-right}
 use lib.ListN.{length, getD}
 use lib.Seq.{sets}
 use lib.Pow.{pow-pos}
-use lib.IntN.{pos}
-use lib.Ieee.{Float, fin, add, ofBits, binary32}
-use Rattle.words.specs.Bytes.{f32At, floatBytes}
+use lib.Ieee.{Float, toBits, binary32}
+use Rattle.words.specs.Bytes.{f32At, floatsOf}
 use Rattle.words.specs.Digits.{join}
 use Rattle.words.specs.Floats.{missing}
 use Rattle.words.specs.Limits.{mostScalarDims}
 use Rattle.words.specs.Lists.{joined}
 use Rattle.words.specs.Refusals.{badLength}
-use Rattle.words.proofs.ByteLaws.{length-floatBytes, sets-append}
+use Rattle.words.proofs.ByteLaws.{sets-append}
 use Rattle.words.proofs.DigitLaws.{join-ext}
 use Rattle.words.proofs.ListLaws.{length-tabulate, tabulate-at, joined-more, length-joined, filled}
+use Rattle.words.proofs.WordsLaws.{length-wordsOf}
 use Rattle.words.proofs.RefusalLaws.{neither, length-is}
 use Rattle.digits.specs.Digits.{isWidth, levels, top, perByte, packedSize, packedByte, packed}
 use Rattle.digits.proofs.DigitLaws.{by-width, digit-from, full-byte, last-byte}
 use Rattle.scalar.specs.Code.{quotient, dimensionCode, codesOf, scalarCode}
-use Rattle.scalar.specs.Table.{rowBytes, addedTo, termAt}
+use Rattle.scalar.specs.Table.{termAt}
 use Rattle.scalar.specs.Parts.{FineVectors}
 use Rattle.scalar.specs.Calls.{badVectors, anyMissing}
 use Rattle.scalar.proofs.RoundLaws.{code-le}
@@ -79,9 +78,8 @@ module _ (w dims : ℕ) (v lo hi : List ℕ) where
 
 -- ---- rows
 
-pub length-row : (n : ℕ) (entry : ℕ → Float) → length (rowBytes n entry) ≡ n * 4
-unfolding rowBytes
-length-row n entry = length-joined 4 n (λ j. floatBytes (entry j)) (λ j l. length-floatBytes (entry j))
+pub length-row : (n : ℕ) (entry : ℕ → Float) → length (floatsOf n entry) ≡ n * 4
+length-row n entry = length-wordsOf n (λ j. toBits binary32 (entry j)) ∙ mul-comm 4 n
 
 pub levels-le : (w : ℕ) → isWidth w ≡ true → levels w ≤ 256
 levels-le w h = by-width (λ w. levels w ≤ 256) (omega arith) (omega arith) (omega arith) (omega arith) w h
@@ -92,32 +90,6 @@ pub piece-more : (m : ℕ) (g : ℕ → List ℕ) → ((i : ℕ) → length (g i
 piece-more m g h l at k p e =
     let f : p ≡ at + length (joined k g) = e ∙ ap (λ (z : ℕ). at + z) (sym (length-joined m k g (λ i q. h i))) in
     rw f (sets-append l at (joined k g) (g k)) ∙ ap (sets l at) (sym (joined-more k g))
-
--- ---- sums
-
-pub from-zero : (f : ℕ → Float) → ofBits binary32 0 ≡ addedTo (fin false 0 (pos 0)) 0 f
-unfolding addedTo ofBits
-from-zero f = refl
-
-pub added-none : (s : Float) (f : ℕ → Float) → s ≡ addedTo s 0 f
-unfolding addedTo
-added-none s f = refl
-
-pub added-more : (s : Float) (n : ℕ) (f : ℕ → Float) → addedTo s (n + 1) f ≡ add binary32 (addedTo s n f) (f n)
-unfolding addedTo
-added-more s n f = ap (λ (k : ℕ). addedTo s k f) (add-one n)
-
--- what is added to a sum goes on with it
-pub added-on : (s : Float) (k n : ℕ) (f : ℕ → Float) → addedTo (addedTo s k f) n (λ j. f (k + j)) ≡ addedTo s (k + n) f
-unfolding addedTo
-added-on s k zero f = ap (λ (z : ℕ). addedTo s z f) (sym (add-zero k))
-  where
-    add-zero : (k : ℕ) → k + 0 ≡ k
-    add-zero k = omega arith
-added-on s k (suc n) f = ap (λ (x : Float). add binary32 x (f (k + n))) (added-on s k n f) ∙ ap (λ (z : ℕ). addedTo s z f) (sym (add-suc k n))
-  where
-    add-suc : (k n : ℕ) → k + suc n ≡ suc (k + n)
-    add-suc k n = omega arith
 
 -- ---- the loop that adds the entries at the digits
 

@@ -9,14 +9,14 @@ use lib.ListN.{take, drop}
 use lib.Seq.{take-all}
 use lib.Ieee.{Float, ofBits, fits, binary32}
 use lib.Ieee.Fits.{mul-fits}
-use Rattle.words.specs.Bytes.{numAt, wordsOf, f32At, floatBytes}
+use Rattle.words.specs.Bytes.{numAt, f32At, floatsOf}
 use Rattle.words.specs.declared.Metric.{Metric}
 use Rattle.words.specs.declared.Metric.the-variants.{L2, Dot}
 use Rattle.words.proofs.ByteLaws.{num-part-from}
 use Rattle.words.proofs.ListLaws.{joined-at}
 use Rattle.words.proofs.WordsLaws.{floats-back}
 use Rattle.digits.specs.Digits.{levels}
-use Rattle.scalar.specs.Table.{apart, entryOf, entryAt, rowBytes, tableBytes}
+use Rattle.scalar.specs.Table.{apart, entryOf, entryAt, tableBytes}
 use Rattle.scalar.proofs.ScalarLaws.{length-row}
 
 apart-fits : (m : Metric) (x y : Float) → T (fits binary32 (apart m x y))
@@ -29,11 +29,10 @@ unfolding entryAt entryOf
 entry-fits m w v lo hi i j = apart-fits m _ _
 
 -- entry j of a row
-row-back : (n : ℕ) (entry : ℕ → Float) (j : ℕ) → ((j : ℕ) → T (fits binary32 (entry j))) → j < n → f32At (rowBytes n entry) j ≡ entry j
-unfolding rowBytes wordsOf floatBytes
+row-back : (n : ℕ) (entry : ℕ → Float) (j : ℕ) → ((j : ℕ) → T (fits binary32 (entry j))) → j < n → f32At (floatsOf n entry) j ≡ entry j
 row-back n entry j h l =
-    let all : take (4 * n) (rowBytes n entry) ≡ rowBytes n entry = take-all (4 * n) (rowBytes n entry) (le-of-eq (length-row n entry ∙ mul-comm n 4)) in
-    floats-back (rowBytes n entry) n j entry all (h j) l
+    let all : take (4 * n) (floatsOf n entry) ≡ floatsOf n entry = take-all (4 * n) (floatsOf n entry) (le-of-eq (length-row n entry ∙ mul-comm n 4)) in
+    floats-back (floatsOf n entry) n j entry all (h j) l
 
 pub table-back : (m : Metric) (w dims : ℕ) (v lo hi : List ℕ) (i j : ℕ) → i < dims → j < levels w
     → f32At (tableBytes m w dims v lo hi) (i * levels w + j) ≡ entryAt m w v lo hi i j
@@ -41,7 +40,7 @@ unfolding tableBytes f32At
 table-back m w dims v lo hi i j h l =
     let n = levels w in
     let t = tableBytes m w dims v lo hi in
-    let row = rowBytes n (entryAt m w v lo hi i) in
+    let row = floatsOf n (entryAt m w v lo hi i) in
     let here : take (n * 4) (drop (n * 4 * i) t) ≡ row = joined-at (n * 4) dims i _ (λ k q. length-row n _) h in
     let place : 4 * (i * n + j) ≡ n * 4 * i + 4 * j = omega arith in
     ap (λ (k : ℕ). ofBits binary32 (numAt 4 t k)) place

@@ -34,6 +34,8 @@ vectorsNumber dims vector lo hi other form =
     (cond (anyMissing dims vector lo hi) 4
     (cond (aboveMax dims lo hi || form) 5 0))
 
+-- ---- encode: BAD_DIMS, BAD_WIDTH, and those of the vectors
+
 unfoldable pub encodeNumber : ℕ → ℕ → List ℕ → List ℕ → List ℕ → List ℕ → ℕ
 encodeNumber dims bits vector lo hi out =
     cond (badDims mostScalarDims dims) 1
@@ -43,6 +45,8 @@ encodeNumber dims bits vector lo hi out =
 unfoldable pub encodeAnswer : ℕ → ℕ → List ℕ → List ℕ → List ℕ → List ℕ → ℕ × List ℕ
 encodeAnswer dims bits vector lo hi out =
     answer (encodeNumber dims bits vector lo hi out) out (scalarCode bits dims vector lo hi)
+
+-- ---- the table of a query: the same, and BAD_VALUE of the metric
 
 unfoldable pub tableNumber : ℕ → ℕ → ℕ → List ℕ → List ℕ → List ℕ → List ℕ → ℕ
 tableNumber metric dims bits vector lo hi out =
@@ -54,7 +58,9 @@ unfoldable pub tableAnswer : ℕ → ℕ → ℕ → List ℕ → List ℕ → L
 tableAnswer metric dims bits vector lo hi out =
     answer (tableNumber metric dims bits vector lo hi out) out (tableBytes (metricOf metric) bits dims vector lo hi)
 
--- the table may hold any bits: a NaN sum is NO_ESTIMATE
+-- ---- the distance of a code by a table
+
+-- BAD_DIMS, BAD_WIDTH, BAD_LENGTH, BAD_VALUE of the metric, and NO_ESTIMATE: the table may hold any bits, so the sum may be a NaN
 unfoldable pub distanceNumber : ℕ → ℕ → ℕ → List ℕ → List ℕ → List ℕ → ℕ
 distanceNumber metric dims bits table code out =
     cond (badDims mostScalarDims dims) 1

@@ -4,18 +4,19 @@ use mathlib.Core.Bool.{cond}
 use mathlib.Core.List.{List}
 use lib.Dec.{eqb}
 use lib.IntN.{pos}
-use lib.Ieee.{Float, nan, inf, fin, up, down, sub, div, ofInt, binary32}
+use lib.Ieee.{Float, nan, inf, fin, up, down, ofInt, binary32}
 use Rattle.words.specs.Bytes.{f32At}
+use Rattle.words.specs.Floats.{_⊖_, _⊘_}
 use Rattle.words.specs.Lists.{tabulate}
 use Rattle.digits.specs.Digits.{top, packed}
 
 -- del = (max - min) / top
 unfoldable pub delOf : ℕ → Float → Float → Float
-delOf t lo hi = div binary32 (sub binary32 hi lo) (ofInt binary32 (pos t))
+delOf t lo hi = (hi ⊖ lo) ⊘ ofInt binary32 (pos t)
 
 -- q = (x - min) / del
 unfoldable pub quotient : ℕ → Float → Float → Float → Float
-quotient t x lo hi = div binary32 (sub binary32 x lo) (delOf t lo hi)
+quotient t x lo hi = (x ⊖ lo) ⊘ delOf t lo hi
 
 -- a number of whole part w, rounded to a whole number by how the rest compares with a half: at a half to the even one
 abbrev pub byRest : ℕ → Ordering → ℕ

@@ -1,10 +1,10 @@
 -- Module 2, scalar quantizer: the table of a query, and the distance of a code by it.
-use Prim.Native.Nat.{ℕ, zero, suc, _+_, _*_}
-use mathlib.Core.Bool.{false}
+use Prim.Native.Nat.{ℕ, _+_, _*_}
 use mathlib.Core.List.{List}
 use lib.IntN.{pos}
-use lib.Ieee.{Float, fin, neg, add, sub, mul, ofInt, binary32}
-use Rattle.words.specs.Bytes.{f32At, floatBytes}
+use lib.Ieee.{Float, neg, ofInt, binary32}
+use Rattle.words.specs.Bytes.{f32At, floatsOf}
+use Rattle.words.specs.Floats.{_⊕_, _⊖_, _⊗_, plusZero, addedTo}
 use Rattle.words.specs.Lists.{joined}
 use Rattle.words.specs.declared.Metric.{Metric}
 use Rattle.words.specs.declared.Metric.the-variants.{L2, Dot}
@@ -13,34 +13,25 @@ use Rattle.scalar.specs.Code.{delOf}
 
 -- what x and y add to a distance: x*y for dot, (x - y)*(x - y) for L2
 unfoldable pub apart : Metric → Float → Float → Float
-apart L2 x y = mul binary32 (sub binary32 x y) (sub binary32 x y)
-apart Dot x y = mul binary32 x y
+apart L2 x y = (x ⊖ y) ⊗ (x ⊖ y)
+apart Dot x y = x ⊗ y
 
 -- entry j of a dimension: y = min + j x del
 unfoldable pub entryOf : Metric → Float → Float → Float → ℕ → Float
-entryOf m x lo del j = apart m x (add binary32 lo (mul binary32 (ofInt binary32 (pos j)) del))
+entryOf m x lo del j = apart m x (lo ⊕ ofInt binary32 (pos j) ⊗ del)
 
 -- entry j of dimension i
 unfoldable pub entryAt : Metric → ℕ → List ℕ → List ℕ → List ℕ → ℕ → ℕ → Float
 entryAt m w vector lo hi i j = entryOf m (f32At vector i) (f32At lo i) (delOf (top w) (f32At lo i) (f32At hi i)) j
 
--- the entries of a dimension, and of all: entry j of dimension i stands at i * 2^w + j
-unfoldable pub rowBytes : ℕ → (ℕ → Float) → List ℕ
-unfolding joined
-rowBytes n entry = joined n (λ j. floatBytes (entry j))
-
+-- the entries of each dimension: entry j of dimension i stands at i * 2^w + j
 unfoldable pub tableBytes : Metric → ℕ → ℕ → List ℕ → List ℕ → List ℕ → List ℕ
 unfolding joined
-tableBytes m w dims vector lo hi = joined dims (λ i. rowBytes (levels w) (entryAt m w vector lo hi i))
+tableBytes m w dims vector lo hi = joined dims (λ i. floatsOf (levels w) (entryAt m w vector lo hi i))
 
 -- a table has dims x 2^w floats
 abbrev pub tableSize : ℕ → ℕ → ℕ
 tableSize w dims = 4 * (dims * levels w)
-
--- f 0, f 1, .., f (n - 1) added to s, one after the other
-unfoldable pub addedTo : Float → ℕ → (ℕ → Float) → Float
-addedTo s zero f = s
-addedTo s (suc n) f = add binary32 (addedTo s n f) (f n)
 
 -- the table entry at digit i of the code
 unfoldable pub termAt : ℕ → List ℕ → List ℕ → ℕ → Float
@@ -49,7 +40,7 @@ termAt w table code i = f32At table (i * levels w + digitAt w code i)
 -- the table entries at the code's digits, added from the left starting at +0.0
 unfoldable pub sumOf : ℕ → ℕ → List ℕ → List ℕ → Float
 unfolding addedTo
-sumOf w dims table code = addedTo (fin false 0 (pos 0)) dims (termAt w table code)
+sumOf w dims table code = addedTo plusZero dims (termAt w table code)
 
 -- a distance is the sum, negated for dot
 unfoldable pub distanceOf : Metric → Float → Float

@@ -14,7 +14,7 @@ use Rattle.words.specs.Lists.{recordOf}
 use Rattle.words.proofs.DigitLaws.{bit-low}
 use Rattle.code.specs.Code.{codeSize, codeBit, wordsBit}
 use Rattle.code.proofs.CodeLaws.{code-bit-lt, code-words-bit}
-use Rattle.block.specs.Block.{blockGroups, laneNibble, laneBit, blockOf, packedBlockByte, packedBlock}
+use Rattle.block.specs.Block.{blockGroups, laneNibble, laneBit, packedBlock}
 use Rattle.block.proofs.LaneLaws.{nibble-lt, lane-bit-lt}
 use Rattle.block.proofs.RoundLaws.{bit-of-block}
 use Rattle.sums.specs.Sums.{plainSum, planeCount, nibbleBit, wordsNibble, tableOf, tableCount, fastCount, QueryCodes}
@@ -81,7 +81,7 @@ counted qs code block q bytes = record {
 
 pub packed-sum : (qs codes : List ℕ) (k : ℕ) → k < 32
     → plainSum qs (laneBit (packedBlock (length qs) codes) k) ≡ plainSum qs (codeBit (recordOf (codeSize (length qs)) codes k))
-unfolding packedBlock packedBlockByte blockOf
+unfolding packedBlock
 packed-sum qs codes k l =
     plain-ext qs _ (codeBit (recordOf (codeSize (length qs)) codes k))
     (λ d h. bit-of-block (length qs) (λ k i. getD (recordOf (codeSize (length qs)) codes k) i 0) (λ k. codeBit (recordOf (codeSize (length qs)) codes k))

@@ -16,7 +16,7 @@ use Rattle.words.proofs.ListLaws.{joined-at, length-joined, length-tabulate, an
 use borrow.Author.Tests.{eq-eqb}
 use Rattle.words.proofs.WordsLaws.{words-ext}
 use Rattle.code.specs.Code.{codeSize}
-use Rattle.block.specs.Block.{blockSize, packedBlock}
+use Rattle.block.specs.Block.{blockSize, blockOf, packedBlock}
 use Rattle.block.proofs.RoundLaws.{lane-of-packed}
 use Rattle.estimate.specs.declared.Asked.the-variants.{LowerBound}
 use Rattle.estimate.specs.declared.Query.{Query}
@@ -32,7 +32,7 @@ use Rattle.walk.proofs.AnswerLaws.{firstNumber, inside, someNan, first-
 -- ---- records
 
 length-packed : (dims : ℕ) (codes : List ℕ) → length (packedBlock dims codes) ≡ blockSize dims
-unfolding packedBlock
+unfolding packedBlock blockOf
 length-packed dims codes = length-tabulate (blockSize dims) _
 
 block-of : (dims : ℕ) (codes : List ℕ) (count b : ℕ) → b < count

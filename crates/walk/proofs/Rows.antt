@@ -2,11 +2,12 @@
 -- `empty-range` of AnswerLaws. Assumes nothing.
 use mathlib.Core.Path.{_≡_, refl}
 use mathlib.Core.List.{[], _∷_, map}
-use Prim.Native.Nat.{ℕ, _+_, _-_}
+use Prim.Native.Nat.{ℕ}
 use Rattle.words.specs.Bytes.{bytesOf, wordsOf}
 use Rattle.words.specs.Lists.{joined}
+use Rattle.walk.specs.Walk.{idWords}
 
-pub ranges : map (λ (r : ℕ × ℕ). wordsOf (r .1 - r .0) (λ j. r .0 + j)) ((31, 33) ∷ (0, 0) ∷ (5, 5) ∷ (64, 32) ∷ [])
+pub ranges : map (λ (r : ℕ × ℕ). idWords (r .0) (r .1)) ((31, 33) ∷ (0, 0) ∷ (5, 5) ∷ (64, 32) ∷ [])
     ≡ ((31 ∷ 0 ∷ 0 ∷ 0 ∷ 32 ∷ 0 ∷ 0 ∷ 0 ∷ []) ∷ [] ∷ [] ∷ [] ∷ [])
 unfolding wordsOf joined bytesOf
 ranges = refl

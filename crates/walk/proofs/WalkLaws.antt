@@ -1,5 +1,5 @@
 -- Laws of specs/Walk: records, the bounds that loops write, marks. Assumes nothing.
-use mathlib.Core.Path.{_≡_, refl, sym, ap, ap₂, _∙_}
+use mathlib.Core.Path.{_≡_, sym, ap, ap₂, _∙_}
 use mathlib.Core.Bool.{Bool, false, _&&_}
 use Prim.Native.Nat.{ℕ, zero, suc, _+_, _-_, _*_, _/_, _%_, _<_, _≤_}
 use mathlib.Core.List.{List, _∷_, [], _++_, append-assoc}
@@ -25,12 +25,7 @@ use Rattle.estimate.specs.Record.{estimateOf, codeEstimate, laneEstimate}
 use Rattle.estimate.proofs.EstimateLaws.{estimate-fits}
 use Rattle.walk.specs.declared.Layout.{Layout}
 use Rattle.walk.specs.declared.Layout.the-variants.{Single, Blocks}
-use Rattle.walk.specs.Walk.{layoutNumber, layoutOf, boundOf, boundWords, outOfRange}
-
-pub layout-back : (l : Layout) → layoutOf (layoutNumber l) ≡ l
-unfolding layoutOf
-layout-back Single = refl
-layout-back Blocks = refl
+use Rattle.walk.specs.Walk.{boundOf, boundWords, outOfRange}
 
 -- ---- records
 

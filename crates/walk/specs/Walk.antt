@@ -4,8 +4,8 @@ use mathlib.Core.Bool.{Bool, not, _&&_, _||_, cond}
 use mathlib.Core.List.{List, _++_}
 use lib.ListN.{length, drop, replicate}
 use lib.Dec.{ltb, eqb}
-use lib.Ieee.{Float, isNan, toBits, binary32}
-use Rattle.words.specs.Bytes.{bytesOf, wordsOf}
+use lib.Ieee.{Float, isNan}
+use Rattle.words.specs.Bytes.{bytesOf, wordsOf, floatsOf}
 use Rattle.words.specs.Limits.{mostRecords, mostPlaces}
 use Rattle.words.specs.Lists.{anyBelow, recordOf}
 use Rattle.words.specs.Metrics.{metricOf}
@@ -20,11 +20,7 @@ use Rattle.estimate.specs.Calls.{queryNumber}
 use Rattle.walk.specs.declared.Layout.{Layout}
 use Rattle.walk.specs.declared.Layout.the-variants.{Single, Blocks}
 
--- the paper's number of a layout, and the layout of 1 or 2: the call refuses every other number first
-abbrev pub layoutNumber : Layout → ℕ
-layoutNumber Single = 1
-layoutNumber Blocks = 2
-
+-- the layout of 1 or 2: the call refuses every other number first
 unfoldable pub layoutOf : ℕ → Layout
 layoutOf n = cond (eqb n 1) Single Blocks
 
@@ -43,6 +39,10 @@ recordsSize Blocks dims n = blocksOf n * blockSize dims
 unfoldable pub boundOf : Layout → Metric → Query → List ℕ → List ℕ → ℕ → Float
 boundOf Single m v qs rs i = codeEstimate LowerBound m v qs (recordOf (codeSize (length qs)) rs i)
 boundOf Blocks m v qs rs i = laneEstimate LowerBound m v qs (recordOf (blockSize (length qs)) rs (i / 32)) (i % 32)
+
+-- how many ids the range start..end has: a difference of natural numbers stops at 0, so none where start >= end
+abbrev pub rangeLen : ℕ → ℕ → ℕ
+rangeLen start end = end - start
 
 -- ---- refusals
 
@@ -64,7 +64,7 @@ outOfRange n start end = ltb start end && ltb n end
 
 -- OUT_OF_RANGE, NO_ROOM
 unfoldable pub rangeNumber : ℕ → ℕ → ℕ → ℕ → ℕ
-rangeNumber n start end places = cond (outOfRange n start end) 6 (cond (ltb places (end - start)) 7 0)
+rangeNumber n start end places = cond (outOfRange n start end) 6 (cond (ltb places (rangeLen start end)) 7 0)
 
 -- BAD_DIMS to BAD_VALUE as of every call with a query, those of the range, and NO_ESTIMATE where a wanted bound is a NaN
 unfoldable pub walkNumber : ℕ → ℕ → ℕ → Query → List ℕ → List ℕ → ℕ → ℕ → ℕ → List ℕ → List ℕ → List ℕ → List ℕ → ℕ
@@ -73,22 +73,26 @@ walkNumber metric layout dims v qs rs n start end ids bounds marks count =
     (queryNumber dims (badLengths layout dims n (length rs) (badLists (length ids) (length bounds) (length marks) (length count))) v qs
     (badForm metric || badForm layout))
     (orElse (rangeNumber n start end (length marks))
-    (cond (anyBelow (end - start) (λ j. isNan (boundOf (layoutOf layout) (metricOf metric) v qs rs (start + j)))) 8 0))
+    (cond (anyBelow (rangeLen start end) (λ j. isNan (boundOf (layoutOf layout) (metricOf metric) v qs rs (start + j)))) 8 0))
 
 -- ---- the answer
 
+-- the ids of a range from start up, four bytes each
+abbrev pub idWords : ℕ → ℕ → List ℕ
+idWords start end = wordsOf (rangeLen start end) (λ j. start + j)
+
 -- the four bytes each of the lower bounds of c ids from start on
 unfoldable pub boundWords : Layout → Metric → Query → List ℕ → List ℕ → ℕ → ℕ → List ℕ
-boundWords l m v qs rs start c = wordsOf c (λ j. toBits binary32 (boundOf l m v qs rs (start + j)))
+boundWords l m v qs rs start c = floatsOf c (λ j. boundOf l m v qs rs (start + j))
 
 -- the number, and the four buffers: ids from start up, their lower bounds, marks 0, and the count; the places past the count stay
 unfoldable pub walkAnswer : ℕ → ℕ → ℕ → Query → List ℕ → List ℕ → ℕ → ℕ → ℕ → List ℕ → List ℕ → List ℕ → List ℕ
     → ℕ × List ℕ × List ℕ × List ℕ × List ℕ
 walkAnswer metric layout dims v qs rs n start end ids bounds marks count =
     let r = walkNumber metric layout dims v qs rs n start end ids bounds marks count in
-    let c = end - start in (
+    let c = rangeLen start end in (
       r,
-      after r ids (wordsOf c (λ j. start + j) ++ drop (4 * c) ids),
+      after r ids (idWords start end ++ drop (4 * c) ids),
       after r bounds (boundWords (layoutOf layout) (metricOf metric) v qs rs start c ++ drop (4 * c) bounds),
       after r marks (replicate c 0 ++ drop c marks),
       after r count (bytesOf 4 c),

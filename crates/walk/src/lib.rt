@@ -16,7 +16,7 @@ ghost use Rattle.estimate.specs.Calls.{queryNumber};
 ghost use Rattle.estimate.specs.Parts.{IsReady};
 ghost use Rattle.estimate.specs.Record.{laneWords};
 ghost use Rattle.estimate.specs.declared.Asked.the-variants.{LowerBound};
-ghost use Rattle.walk.specs.Walk.{layoutOf, badRecords, badLists, badLengths, outOfRange, rangeNumber, boundWords, walkAnswer};
+ghost use Rattle.walk.specs.Walk.{layoutOf, badRecords, badLists, badLengths, rangeLen, outOfRange, rangeNumber, boundWords, walkAnswer};
 ghost use Rattle.walk.specs.Parts.{Range, BlockRange, roomOf};
 use estimate::Asked;
 use estimate::Query;
@@ -361,7 +361,7 @@ fn out_of_range(n: u32, start: u32, end: u32) -> bool
 
 // How many ids a range has.
 fn range_len(start: u32, end: u32) -> usize
-    ensures { λ r. ⌜ r ≡ end - start ⌝ }
+    ensures { λ r. ⌜ r ≡ rangeLen start end ⌝ }
 {
     if start < end {
         (end - start) as usize

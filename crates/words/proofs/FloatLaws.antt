@@ -1,9 +1,10 @@
--- Laws of floats by their bit patterns: NaNs, infinities, and buffers that have none. Assumes nothing.
+-- Laws of floats by their bit patterns: NaNs, infinities, and buffers that have none; and of their sums. Assumes nothing.
 use Prim.Native.Nat.{ℕ, zero, suc, _+_, _-_, _*_, _/_, _%_, _^_, _<_, _≤_}
 use mathlib.Core.Bool.{Bool, true, false, not, cond}
 use mathlib.Core.List.{List}
 use mathlib.Core.Path.{_≡_, refl, sym, ap, _∙_, subst}
 use native.Mathlib.Omega.{arith}
+use native.Mathlib.Numerals.{add-one}
 use native.Mathlib.Nat.{lt-of-not-le, not-le-of-lt, lt-of-lt-of-le, mul-div-cancel, zero-add}
 use lib.Dec.{T, eqb, leb}
 use lib.Pow.{pow-mono}
@@ -15,7 +16,7 @@ use lib.Ieee.Exact.{HasValue}
 use lib.Ieee.Fits.{down-pos}
 use borrow.Author.Tests.{le-leb, lt-leb, lt-ltb, le-ltb, eqb-true, eqb-false}
 use Rattle.words.specs.Bytes.{numAt, f32At}
-use Rattle.words.specs.Floats.{notFinite, missing, anyNan}
+use Rattle.words.specs.Floats.{_⊕_, addedTo, notFinite, missing, anyNan}
 use Rattle.words.specs.Lists.{anyBelow}
 use Rattle.words.proofs.ListLaws.{none-at, any-ext}
 
@@ -128,3 +129,25 @@ bits-of (inf s) a h = absurd h
 bits-of (fin s m e) a h =
     let n : m * up e * 2 ^ 149 / down e ≡ a = ap (λ (x : ℕ). x / down e) (h .1) ∙ mul-div-cancel a (down-pos e) in
     rw (n, h .0, zero-add) refl
+
+-- ---- sums, one after the other
+
+pub added-none : (s : Float) (f : ℕ → Float) → s ≡ addedTo s 0 f
+unfolding addedTo
+added-none s f = refl
+
+pub added-more : (s : Float) (n : ℕ) (f : ℕ → Float) → addedTo s (n + 1) f ≡ addedTo s n f ⊕ f n
+unfolding addedTo
+added-more s n f = ap (λ (k : ℕ). addedTo s k f) (add-one n)
+
+-- what is added to a sum goes on with it
+pub added-on : (s : Float) (k n : ℕ) (f : ℕ → Float) → addedTo (addedTo s k f) n (λ j. f (k + j)) ≡ addedTo s (k + n) f
+unfolding addedTo
+added-on s k zero f = ap (λ (z : ℕ). addedTo s z f) (sym (add-zero k))
+  where
+    add-zero : (k : ℕ) → k + 0 ≡ k
+    add-zero k = omega arith
+added-on s k (suc n) f = ap (λ (x : Float). x ⊕ f (k + n)) (added-on s k n f) ∙ ap (λ (z : ℕ). addedTo s z f) (sym (add-suc k n))
+  where
+    add-suc : (k n : ℕ) → k + suc n ≡ suc (k + n)
+    add-suc k n = omega arith

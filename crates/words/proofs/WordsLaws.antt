@@ -9,7 +9,7 @@ use lib.ListN.{length, take, drop, length-append, length-drop}
 use lib.Seq.{sets, sets-eq, take-at, drop-append-add, drop-drop}
 use lib.Ieee.{Float, ofBits, toBits, binary32, fits}
 use lib.Ieee.Bits.{ofBits-toBits, toBits-lt}
-use Rattle.words.specs.Bytes.{numAt, bytesOf, f32At, wordsOf}
+use Rattle.words.specs.Bytes.{numAt, bytesOf, f32At, wordsOf, floatsOf}
 use Rattle.words.proofs.ListLaws.{joined-none, joined-more, joined-ext, joined-split, joined-part, joined-at, length-joined}
 use Rattle.words.proofs.ByteLaws.{length-bytesOf, num-part, num-part-from, num-bytes, take-sets}
 
@@ -82,7 +82,7 @@ num-words s c j f e l b =
     ∙ num-bytes (f j) b
 
 -- the floats that were written
-pub floats-back : (s : List ℕ) (c j : ℕ) (g : ℕ → Float) → take (4 * c) s ≡ wordsOf c (λ i. toBits binary32 (g i))
+pub floats-back : (s : List ℕ) (c j : ℕ) (g : ℕ → Float) → take (4 * c) s ≡ floatsOf c g
     → T (fits binary32 (g j)) → j < c → f32At s j ≡ g j
 unfolding f32At
 floats-back s c j g e h l =

@@ -27,3 +27,7 @@ f32At s i = ofBits binary32 (numAt 4 s (4 * i))
 -- the four bytes that write the float x: a NaN is written as 0x7FC0_0000
 unfoldable pub floatBytes : Float → List ℕ
 floatBytes x = bytesOf 4 (toBits binary32 x)
+
+-- the floats f 0, .., f (n - 1) so written
+abbrev pub floatsOf : ℕ → (ℕ → Float) → List ℕ
+floatsOf n f = wordsOf n (λ i. toBits binary32 (f i))

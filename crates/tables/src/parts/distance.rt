@@ -4,9 +4,10 @@ ghost use mathlib.Core.Path.{_≡_};
 ghost use mathlib.Core.Bool.{true};
 ghost use Prim.Native.Nat.{_+_, _*_, _/_, _%_, _^_, _≤_, _<_};
 ghost use lib.ListN.{length, getD};
+ghost use Rattle.words.specs.Floats.{addedTo};
 ghost use Rattle.words.specs.Limits.{mostScalarDims};
 ghost use Rattle.digits.specs.Digits.{bitsOf, isWidth, levels, packedSize};
-ghost use Rattle.scalar.specs.Table.{tableSize, addedTo, termAt, sumOf, distanceOf};
+ghost use Rattle.scalar.specs.Table.{tableSize, termAt, sumOf, distanceOf};
 use digits::Width;
 use words::Metric;
 

@@ -5,10 +5,11 @@ ghost use mathlib.Core.Bool.{true};
 ghost use Prim.Native.Nat.{_+_, _*_, _≤_};
 ghost use lib.ListN.{length};
 ghost use lib.Seq.{sets};
+ghost use Rattle.words.specs.Bytes.{floatsOf};
 ghost use Rattle.words.specs.Limits.{mostScalarDims};
 ghost use Rattle.digits.specs.Digits as d;
 ghost use Rattle.digits.specs.Digits.{bitsOf, isWidth, levels};
-ghost use Rattle.scalar.specs.Table.{apart, entryOf, rowBytes, tableBytes, tableSize};
+ghost use Rattle.scalar.specs.Table.{apart, entryOf, tableBytes, tableSize};
 ghost use Rattle.scalar.specs.Parts.{FineVectors};
 use digits::Width;
 use scalar::parts::code::TOP_1;
@@ -61,7 +62,7 @@ fn apart_by(m: Metric, x: f32, y: f32) -> f32
 // The entries of a dimension, from place at of the table on.
 fn put_row(m: Metric, n: u16, x: f32, lo: f32, del: f32, out: &mut [u8], at: usize)
     requires { ⌜ (n ≤ 256) × (at + 4 * n ≤ length (now out)) ⌝ }
-    ensures { λ r. ⌜ now (out .exit) ≡ sets (now (out .entry)) at (rowBytes n (entryOf m x lo del)) ⌝ }
+    ensures { λ r. ⌜ now (out .exit) ≡ sets (now (out .entry)) at (floatsOf n (entryOf m x lo del)) ⌝ }
 {
     let mut j: u16 = 0;
     while j < n {

@@ -6,7 +6,7 @@ use native.Mathlib.Omega.{arith}
 use lib.ListN.{length, take}
 use lib.Seq.{sets}
 use lib.Ieee.{toBits, binary32}
-use Rattle.words.specs.Bytes.{wordsOf}
+use Rattle.words.specs.Bytes.{wordsOf, floatsOf}
 use Rattle.words.proofs.WordsLaws.{words-none}
 use Rattle.words.specs.Lists.{recordOf}
 use Rattle.estimate.specs.declared.Asked.the-variants.{LowerBound}
@@ -21,7 +21,7 @@ use Rattle.walk.proofs.fill_by_table.Tie as tie
 abbrev Inv-loop : tie.InvT-loop
 Inv-loop m p q table records blocks first count buf₀ size b₀ buf b =
     (b ≤ count) × (length buf ≡ length buf₀)
-    × (take (128 * b) buf ≡ wordsOf (32 * b) (λ j. toBits binary32 (boundOf Blocks m (p .v) q records (32 * first + j))))
+    × (take (128 * b) buf ≡ floatsOf (32 * b) (λ j. boundOf Blocks m (p .v) q records (32 * first + j)))
 
 abbrev μ-loop : tie.MeasureT-loop
 μ-loop m p q table records blocks first count buf₀ size b₀ buf b = count - b

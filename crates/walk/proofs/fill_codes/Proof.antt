@@ -4,8 +4,7 @@ use mathlib.Core.List.{List}
 use Prim.Native.Nat.{ℕ, _+_, _-_, _*_, _≤_, zero-le}
 use native.Mathlib.Omega.{arith}
 use lib.ListN.{length, take}
-use lib.Ieee.{toBits, binary32}
-use Rattle.words.specs.Bytes.{wordsOf}
+use Rattle.words.specs.Bytes.{floatsOf}
 use Rattle.words.proofs.WordsLaws.{words-none}
 use Rattle.words.specs.Lists.{recordOf}
 use Rattle.estimate.specs.declared.Asked.the-variants.{LowerBound}
@@ -19,7 +18,7 @@ use Rattle.walk.proofs.fill_codes.Tie as tie
 
 abbrev Inv-loop : tie.InvT-loop
 Inv-loop m p q records n start c buf₀ planes size i₀ buf i =
-    (i ≤ c) × (length buf ≡ length buf₀) × (take (4 * i) buf ≡ wordsOf i (λ j. toBits binary32 (boundOf Single m (p .v) q records (start + j))))
+    (i ≤ c) × (length buf ≡ length buf₀) × (take (4 * i) buf ≡ floatsOf i (λ j. boundOf Single m (p .v) q records (start + j)))
 
 abbrev μ-loop : tie.MeasureT-loop
 μ-loop m p q records n start c buf₀ planes size i₀ buf i = c - i

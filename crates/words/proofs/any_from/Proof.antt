@@ -1,6 +1,6 @@
 -- `words::any_from` meets its contract. Assumes nothing.
 use Prim.Native.Nat.{_≤_, _-_, _*_, _%_}
-use mathlib.Core.Path.{_≡_, sym, ap, _∙_}
+use mathlib.Core.Path.{_≡_, sym}
 use native.Mathlib.Omega.{arith}
 use lib.Dec.{leb, ltb}
 use borrow.Author.Needs.{needs}

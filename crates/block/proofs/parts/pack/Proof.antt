@@ -4,7 +4,8 @@ use Prim.Native.Nat.{ℕ, _+_, _-_, _*_, _<_, _≤_}
 use native.Mathlib.Omega.{arith}
 use lib.ListN.{length, getD}
 use Rattle.words.proofs.ListLaws.{filled}
-use Rattle.block.specs.Block.{blockGroups, blockSize, packedBlockByte, packedBlock}
+use Rattle.block.specs.Block.{blockGroups, blockSize, blockOf, packedBlock}
+use Rattle.block.specs.Parts.{packedBlockByte}
 use borrow.Author.Needs.{needs}
 use Rattle.block.proofs.parts.pack.Statement.{statement}
 use Rattle.block.proofs.parts.pack.Tie as tie
@@ -42,7 +43,7 @@ same-length : tie.Need-same-length Inv-loop μ-loop
 same-length c = search needs
 
 returns : tie.Need-returns Inv-loop μ-loop
-unfolding packedBlock
+unfolding packedBlock blockOf packedBlockByte
 returns c =
     let a = c .before .before .before .before .before .before .before .before .args in
     let l = c .before .loop in

@@ -2,8 +2,9 @@
 use mathlib.Core.Path.{ap, _∙_}
 use native.Mathlib.Omega.{arith}
 use lib.ListN.{length, length-drop}
+use Rattle.sums.proofs.PlainLaws.{words-sum}
 use Rattle.estimate.specs.Record.{codeEstimate}
-use Rattle.estimate.proofs.EstimateLaws.{ready-estimate, words-sum}
+use Rattle.estimate.proofs.EstimateLaws.{ready-estimate}
 use borrow.Author.Needs.{needs}
 use Rattle.estimate.proofs.parts.code_estimate.Statement.{statement}
 use Rattle.estimate.proofs.parts.code_estimate.Tie as tie

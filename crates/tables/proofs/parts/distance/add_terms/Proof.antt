@@ -4,8 +4,10 @@ use mathlib.Core.Path.{_≡_, sym}
 use native.Mathlib.Omega.{arith}
 use lib.Pow.{pow-pos}
 use Rattle.digits.specs.Digits.{levels}
-use Rattle.scalar.specs.Table.{addedTo, termAt}
-use Rattle.scalar.proofs.ScalarLaws.{added-none, added-more, in-table, byte-within, term-is, bits-fit, rows-fit, levels-le}
+use Rattle.words.specs.Floats.{addedTo}
+use Rattle.words.proofs.FloatLaws.{added-none, added-more}
+use Rattle.scalar.specs.Table.{termAt}
+use Rattle.scalar.proofs.ScalarLaws.{in-table, byte-within, term-is, bits-fit, rows-fit, levels-le}
 use Rattle.tables.proofs.parts.distance.add_terms.Statement.{statement}
 use Rattle.tables.proofs.parts.distance.add_terms.Tie as tie
 

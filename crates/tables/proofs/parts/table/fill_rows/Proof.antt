@@ -5,13 +5,14 @@ use mathlib.Core.Path.{_≡_, refl, sym, _∙_}
 use native.Mathlib.Nat.{mul-le-mul-right}
 use native.Mathlib.Omega.{arith}
 use lib.Seq.{sets, length-sets}
+use Rattle.words.specs.Bytes.{floatsOf}
 use Rattle.words.specs.Lists.{joined}
 use Rattle.words.specs.declared.Metric.{Metric}
 use Rattle.words.proofs.ByteLaws.{sets-all}
 use Rattle.words.proofs.FloatLaws.{none-missing}
 use Rattle.words.proofs.ListLaws.{joined-none, length-joined}
 use Rattle.digits.specs.Digits.{levels}
-use Rattle.scalar.specs.Table.{entryAt, rowBytes, tableBytes}
+use Rattle.scalar.specs.Table.{entryAt, tableBytes}
 use Rattle.scalar.proofs.ScalarLaws.{length-row, levels-le, piece-more}
 use borrow.Author.Needs.{needs}
 use Rattle.tables.proofs.parts.table.fill_rows.Statement.{statement}
@@ -19,7 +20,7 @@ use Rattle.tables.proofs.parts.table.fill_rows.Tie as tie
 
 -- row i of the table
 abbrev row : Metric → ℕ → List ℕ → List ℕ → List ℕ → ℕ → List ℕ
-row m bits v lo hi i = rowBytes (levels bits) (entryAt m bits v lo hi i)
+row m bits v lo hi i = floatsOf (levels bits) (entryAt m bits v lo hi i)
 
 abbrev Inv-loop : tie.InvT-loop
 Inv-loop m bits n top' dims vector lo hi out₀ i₀ at₀ out i at =

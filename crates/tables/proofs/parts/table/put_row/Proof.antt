@@ -4,11 +4,11 @@ use mathlib.Core.List.{List}
 use mathlib.Core.Path.{_≡_, refl, sym, _∙_}
 use native.Mathlib.Omega.{arith}
 use lib.Seq.{sets, length-sets}
-use Rattle.words.specs.Bytes.{floatBytes}
+use Rattle.words.specs.Bytes.{floatBytes, wordsOf}
 use Rattle.words.specs.Lists.{joined}
 use Rattle.words.proofs.ByteLaws.{length-floatBytes}
 use Rattle.words.proofs.ListLaws.{joined-none}
-use Rattle.scalar.specs.Table.{entryOf, rowBytes}
+use Rattle.scalar.specs.Table.{entryOf}
 use Rattle.scalar.proofs.ScalarLaws.{piece-more}
 use borrow.Author.Needs.{needs}
 use Rattle.tables.proofs.parts.table.put_row.Statement.{statement}
@@ -60,7 +60,7 @@ same-length : tie.Need-same-length Inv-loop μ-loop
 same-length c = rw (c .before .loop .inv .1) (simp length-sets)
 
 returns : tie.Need-returns Inv-loop μ-loop
-unfolding rowBytes
+unfolding wordsOf floatBytes
 returns c = let l = c .before .loop in let e : l .j ≡ c .before .before .before .args .n = omega arith in rw (sym e) (l .inv .1)
 
 pub put-row-spec : {M : Type 1} → statement M

@@ -1,21 +1,23 @@
-/* A search from end to end. 64 references become codes of one bit a dimension, the codes become two blocks, a walk over
+/* A search from end to end. 70 references become codes of one bit a dimension, the codes become three blocks, a walk over
  * the blocks gives a lower bound of each distance, and the reranker hands out the references by exact distance. An exact
- * distance is a slow read, so it reads as few as it can.
+ * distance is a slow read, so it reads as few as it can. (One walk fills at most 4,096 places: index.cpp has a search over
+ * more records.)
  *
  *   cc -std=c99 examples/search.c $(pkg-config --cflags --libs lintelkite) -o search
  *
  * It exits with 0 when every answer is the one it expects.
  */
 #include <lintelkite.h>
+#include <math.h>
 #include <stdio.h>
 #include <stdlib.h>
 #include <string.h>
 
 #define DIMS 100
-#define RECORDS 64
+#define RECORDS 70
 #define CODE (16 + 8 * ((DIMS + 63) / 64))
 #define BLOCK (512 + 16 * ((DIMS + 3) / 4))
-#define BLOCKS (RECORDS / 32)
+#define BLOCKS ((RECORDS + 31) / 32)
 #define WANTED 5
 
 static float reference[RECORDS][DIMS], powder[DIMS];
@@ -105,20 +107,23 @@ static float root(float x)
 static void encode(const float *x, uint8_t *code)
 {
     uint8_t factors[16], vector[4 * DIMS];
-    float f[4], absolutes = 0.0f, squares = 0.0f, length, spread;
+    float f[4], absolutes = 0.0f, squares = 0.0f, spread = 0.0f, rest;
     int d, signs = 0;
     for (d = 0; d < DIMS; d++) {
         absolutes += x[d] < 0.0f ? -x[d] : x[d];
         squares += x[d] * x[d];
-        signs += x[d] < 0.0f ? -1 : 1;
+        signs += signbit(x[d]) ? -1 : 1;
     }
-    length = root(squares);
-    spread = length / (absolutes / root(squares * (float)DIMS));
+    /* A vector of zeros has no direction. Its factors are 0, and its estimates are exact. */
+    if (absolutes > 0.0f)
+        spread = root(squares) / (absolutes / root(squares * (float)DIMS));
+    /* This is 0 where all numbers have one size, and rounding may take it below. There it has no root. */
+    rest = spread * spread - squares;
     /* dis_u_2, factor_ppc, factor_ip, factor_err. A greater factor_err makes lower bounds: safer ones, and more reads. */
     f[0] = squares;
     f[2] = -2.0f / root((float)DIMS) * spread;
     f[1] = f[2] * (float)signs;
-    f[3] = 3.0f / root((float)DIMS - 1.0f) * root(spread * spread - length * length);
+    f[3] = rest > 0.0f ? 3.0f / root((float)DIMS - 1.0f) * root(rest) : 0.0f;
     put_floats(factors, f, 4);
     put_floats(vector, x, DIMS);
     expect("lk_code_encode", lk_code_encode(DIMS, factors, sizeof factors, vector, sizeof vector, code, CODE), LK_ACCEPTED);
@@ -141,8 +146,9 @@ static void make_query(float *dis_v_2, float *b, float *k, uint8_t *codes)
     *b = low;
     *k = (high - low) / 15.0f;
     for (d = 0; d < DIMS; d++) {
-        int code = (int)((powder[d] - low) / *k + 0.5f);
-        codes[d] = (uint8_t)(code < 15 ? code : 15);
+        /* The nearest code. A flat powder has k 0, and codes of 0. */
+        float code = *k > 0.0f ? (powder[d] - low) / *k + 0.5f : 0.0f;
+        codes[d] = (uint8_t)(code < 15.0f ? code : 15.0f);
     }
 }
 
@@ -181,7 +187,7 @@ static long next_hit(struct search *s, float *far)
 
 int main(void)
 {
-    uint8_t *codes = malloc(RECORDS * CODE), *blocks = malloc(BLOCKS * BLOCK), query[DIMS], size[4], count[4];
+    uint8_t *codes = calloc(32 * BLOCKS, CODE), *blocks = malloc(BLOCKS * BLOCK), query[DIMS], size[4], count[4];
     uint8_t ids[4 * RECORDS], bounds[4 * RECORDS], marks[RECORDS], distances[4 * RECORDS], single[4 * RECORDS];
     float dis_v_2, b, k, far = 0.0f, before = 0.0f;
     int i, given = 0, seen[RECORDS] = {0};
@@ -192,7 +198,8 @@ int main(void)
         return 1;
     make_data();
 
-    /* References to codes, codes to blocks of 32. */
+    /* References to codes, codes to blocks of 32. The last block is filled up with codes of zeros. Any codes will do: a
+     * walk is told how many records there are, and gives no id past them. */
     expect("lk_code_size", lk_code_size(DIMS, size, sizeof size), LK_ACCEPTED);
     expect("the size of a code", get_number(size), CODE);
     expect("lk_block_size", lk_block_size(DIMS, size, sizeof size), LK_ACCEPTED);
@@ -203,7 +210,7 @@ int main(void)
         expect("lk_block_pack", lk_block_pack(DIMS, codes + i * 32 * CODE, 32 * CODE, blocks + i * BLOCK, BLOCK), LK_ACCEPTED);
     printf("%d references of %d floats: %d bytes of codes, %d bytes of blocks\n", RECORDS, DIMS, RECORDS * CODE, BLOCKS * BLOCK);
 
-    /* Lower bounds of all 64, over the blocks. Over the single codes they are the same, bit for bit. */
+    /* Lower bounds of all, over the blocks. Over the single codes they are the same, bit for bit. */
     make_query(&dis_v_2, &b, &k, query);
     expect("lk_walk",
            lk_walk(LK_L2, LK_SINGLE, DIMS, dis_v_2, b, k, query, DIMS, codes, RECORDS * CODE, RECORDS, 0, RECORDS, ids,

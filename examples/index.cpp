@@ -1,5 +1,6 @@
 // An index in C++: references are added one by one, searches hand out the nearest by dot product, and a refusal is an
-// exception. The index holds its references as single codes; exact distances come from a function of the caller's.
+// exception. The index holds its references as single codes, more of them than one walk has places for; exact distances
+// come from a function of the caller's.
 //
 //   c++ -std=c++17 examples/index.cpp $(pkg-config --cflags --libs lintelkite) -o index
 //
@@ -7,6 +8,7 @@
 #include <lintelkite.h>
 
 #include <algorithm>
+#include <cmath>
 #include <cstdint>
 #include <cstdio>
 #include <cstring>
@@ -76,6 +78,26 @@ static float dot(const Vector &x, const Vector &y)
     return sum;
 }
 
+// A powder as a query: codes of at most 15 that stand for b + code * k.
+struct Query {
+    float dis_v_2, b, k;
+    Bytes codes;
+
+    explicit Query(const Vector &v) : dis_v_2(dot(v, v)), b(0), k(0)
+    {
+        if (v.empty())
+            return;
+        const auto [least, greatest] = std::minmax_element(v.begin(), v.end());
+        b = *least;
+        k = (*greatest - *least) / 15;
+        for (float x : v) {
+            // The nearest code. A flat powder has k 0, and codes of 0.
+            const float code = k > 0 ? (x - b) / k + 0.5f : 0;
+            codes.push_back(static_cast<std::uint8_t>(code < 15 ? code : 15));
+        }
+    }
+};
+
 struct Hit {
     std::uint32_t id;
     float distance;
@@ -95,14 +117,16 @@ class Index {
     // Adds a reference; its id is the size before. A refusal adds nothing.
     void add(const Vector &x)
     {
-        const float n = static_cast<float>(x.size()), squares = dot(x, x), length = root(squares);
+        const float n = static_cast<float>(dims), squares = dot(x, x);
         float absolutes = 0, signs = 0;
         for (float a : x) {
-            absolutes += a < 0 ? -a : a;
-            signs += a < 0 ? -1.0f : 1.0f;
+            absolutes += std::fabs(a);
+            signs += std::signbit(a) ? -1.0f : 1.0f;
         }
-        const float spread = length / (absolutes / root(squares * n)), ip = -2 / root(n) * spread;
-        const float err = 3 / root(n - 1) * root(spread * spread - length * length);
+        // A vector of zeros has no direction. Its factors are 0, and its estimates are exact.
+        const float spread = absolutes > 0 ? root(squares) / (absolutes / root(squares * n)) : 0, ip = -2 / root(n) * spread;
+        // This is 0 where all numbers have one size, and rounding may take it below. There it has no root.
+        const float rest = spread * spread - squares, err = rest > 0 ? 3 / root(n - 1) * root(rest) : 0;
         const Bytes factors = bytes({squares, ip * signs, ip, err}), vector = bytes(x);
         Bytes code(code_size);
         accept("lk_code_encode", lk_code_encode(dims, factors.data(), factors.size(), vector.data(), vector.size(),
@@ -111,40 +135,49 @@ class Index {
         records++;
     }
 
-    // The nearest `wanted` references. `exact` is asked for as few distances as that takes.
+    // The nearest `wanted` references, nearest first. `exact` is asked for as few distances as that takes.
+    //
+    // A walk fills at most 4,096 places, so the index is walked in windows. The nearest so far are kept, and a window is
+    // left where nothing in it can be nearer.
     std::vector<Hit> search(const Vector &v, std::size_t wanted, const std::function<float(std::uint32_t)> &exact) const
     {
-        // The query's codes stand for low + code * k.
-        const auto [least, greatest] = std::minmax_element(v.begin(), v.end());
-        const float low = *least, k = (*greatest - *least) / 15;
-        Bytes query;
-        for (float x : v)
-            query.push_back(static_cast<std::uint8_t>(std::min(15, static_cast<int>((x - low) / k + 0.5f))));
-
-        Bytes ids(4 * records), bounds(4 * records), marks(records), distances(4 * records), out(16), count(4);
-        accept("lk_walk", lk_walk(LK_DOT, LK_SINGLE, dims, dot(v, v), low, k, query.data(), query.size(), codes.data(),
-                                  codes.size(), records, 0, records, ids.data(), ids.size(), bounds.data(),
-                                  bounds.size(), marks.data(), marks.size(), count.data(), count.size()));
-
+        const Query query(v);
         std::vector<Hit> hits;
-        while (hits.size() < wanted) {
-            accept("lk_rerank_next",
-                   lk_rerank_next(bounds.data(), bounds.size(), distances.data(), distances.size(), marks.data(),
-                                  marks.size(), out.data(), out.size()));
-            const std::uint32_t answer = number(out), place = number(out, 1);
-            if (answer == LK_DONE)
-                break;
-            if (answer == LK_GIVE)
-                hits.push_back({number(ids, place), real(out, 2)});
-            else
-                accept("lk_rerank_supply",
-                       lk_rerank_supply(bounds.data(), bounds.size(), distances.data(), distances.size(), marks.data(),
-                                        marks.size(), place, exact(number(ids, place)), count.data(), count.size()));
+        for (std::uint32_t start = 0; start < records && wanted > 0; start += most_places) {
+            const std::uint32_t places = std::min(most_places, records - start);
+            Bytes ids(4 * places), bounds(4 * places), marks(places), distances(4 * places), out(16), count(4);
+            accept("lk_walk",
+                   lk_walk(LK_DOT, LK_SINGLE, dims, query.dis_v_2, query.b, query.k, query.codes.data(),
+                           query.codes.size(), codes.data(), codes.size(), records, start, start + places, ids.data(),
+                           ids.size(), bounds.data(), bounds.size(), marks.data(), marks.size(), count.data(), count.size()));
+            for (;;) {
+                accept("lk_rerank_next",
+                       lk_rerank_next(bounds.data(), bounds.size(), distances.data(), distances.size(), marks.data(),
+                                      marks.size(), out.data(), out.size()));
+                const std::uint32_t answer = number(out), place = number(out, 1);
+                if (answer == LK_DONE)
+                    break;
+                // Nothing that is left in this window is nearer than this.
+                const Hit next = {number(ids, place), answer == LK_GIVE ? real(out, 2) : real(bounds, place)};
+                if (hits.size() == wanted && !nearer(next, hits.back()))
+                    break;
+                if (answer == LK_GIVE) {
+                    hits.insert(std::upper_bound(hits.begin(), hits.end(), next, nearer), next);
+                    hits.resize(std::min(hits.size(), wanted));
+                } else {
+                    accept("lk_rerank_supply",
+                           lk_rerank_supply(bounds.data(), bounds.size(), distances.data(), distances.size(), marks.data(),
+                                            marks.size(), place, exact(next.id), count.data(), count.size()));
+                }
+            }
         }
         return hits;
     }
 
   private:
+    static constexpr std::uint32_t most_places = 4096;
+    static bool nearer(const Hit &x, const Hit &y) { return x.distance < y.distance; }
+
     std::uint32_t dims, code_size = 0, records = 0;
     Bytes codes;
 };
@@ -179,14 +212,14 @@ try {
         return static_cast<float>(state >> 8) / 8388608.0f - 1.0f;
     };
 
-    // 100 references; the powder looks like the 61st.
+    // 5,000 references, of which one walk can reach 4,096; the powder looks like reference 4,321.
     Index index(dims);
-    std::vector<Vector> references(100, Vector(dims));
+    std::vector<Vector> references(5000, Vector(dims));
     for (Vector &reference : references) {
         std::generate(reference.begin(), reference.end(), noise);
         index.add(reference);
     }
-    Vector powder = references[61];
+    Vector powder = references[4321];
     for (float &x : powder)
         x += 0.3f * noise();
 
@@ -199,16 +232,20 @@ try {
     for (const Hit &hit : hits)
         std::printf("reference %lu at %.3f\n", static_cast<unsigned long>(hit.id), static_cast<double>(hit.distance));
     std::printf("%d of %lu references were read\n", reads, static_cast<unsigned long>(index.size()));
+    expect("the one that it looks like", hits.at(0).id == 4321);
+    expect("few reads", reads < 5000 / 2);
 
-    // The same three by reading all.
+    // The same three, and then a thousand, by reading all.
     std::vector<std::pair<float, std::uint32_t>> all;
     for (std::uint32_t id = 0; id < index.size(); id++)
         all.push_back({-dot(references[id], powder), id});
     std::sort(all.begin(), all.end());
-    expect("three hits", hits.size() == 3);
-    for (std::size_t i = 0; i < hits.size(); i++)
-        expect("the nearest by reading all", hits[i].id == all[i].second && hits[i].distance == all[i].first);
-    expect("few reads", reads < 100);
+    for (std::size_t wanted : {3u, 1000u}) {
+        const std::vector<Hit> found = index.search(powder, wanted, exact);
+        expect("as many as were wanted", found.size() == wanted);
+        for (std::size_t i = 0; i < found.size(); i++)
+            expect("the nearest by reading all", found[i].id == all[i].second && found[i].distance == all[i].first);
+    }
 
     // What is refused changes nothing.
     const Vector short_one(powder.begin() + 1, powder.end());
@@ -216,8 +253,17 @@ try {
     expect("a short vector", refusal([&] { index.add(short_one); }) == LK_BAD_LENGTH);
     const auto lost = [](std::uint32_t) { return std::numeric_limits<float>::quiet_NaN(); };
     expect("a distance that is a NaN", refusal([&] { index.search(powder, 1, lost); }) == LK_MISSING);
-    expect("no reference more", index.size() == 100);
-    expect("every reference", index.search(powder, 1000, exact).size() == 100);
+    expect("no reference more", index.size() == 5000);
+
+    // Flat ones, of one number throughout, are as good as others.
+    Index flat(dims);
+    const Vector heights = {0.003f, -1, 0, 0.7f};
+    for (float height : heights)
+        flat.add(Vector(dims, height));
+    const auto product = [&](std::uint32_t id) { return -dot(Vector(dims, heights[id]), Vector(dims, 0.25f)); };
+    const std::vector<Hit> order = flat.search(Vector(dims, 0.25f), 10, product);
+    expect("all four", order.size() == 4);
+    expect("by their heights", order.at(0).id == 3 && order.at(1).id == 0 && order.at(2).id == 2 && order.at(3).id == 1);
     return surprises == 0 ? 0 : 1;
 } catch (const std::exception &why) {
     std::printf("%s\n", why.what());

@@ -8,11 +8,11 @@ use native.Mathlib.Omega.{arith}
 use lib.ListN.{length, getD}
 use borrow.Author.Tests.{lt-ltb, le-ltb}
 use Rattle.words.specs.Digits.{bit, kept}
-use Rattle.words.specs.Lists.{joined, recordOf}
+use Rattle.words.specs.Lists.{recordOf}
 use Rattle.words.proofs.ListLaws.{joined-at, tabulate-at, tabulate-ext, filled}
 use Rattle.words.proofs.DigitLaws.{join-whole, lt-or-ge, kept-in, kept-out, kept-lt, kept-ext, bits-lt, join-ext, bit-join}
-use Rattle.code.specs.Code.{codeSize, codeBit, codeOf, clearedCode}
-use Rattle.code.proofs.CodeLaws.{code-bit-lt, code-ext, length-code, factor-of-code, bit-of-code, made-cleared}
+use Rattle.code.specs.Code.{codeSize, codeBit, clearedCode}
+use Rattle.code.proofs.CodeLaws.{code-bit-lt, code-ext, length-code, factor-of-code, bit-of-code}
 use Rattle.block.specs.Block.{blockGroups, blockSize, laneFactor, laneNibble, laneBit, laneCode, groupNibble, groupByte, blockByte, blockOf}
 use Rattle.block.specs.Block.{packedBlock, clearedBlock, lanesOf}
 use Rattle.block.proofs.LaneLaws.{lane-bit-lt, lane-bit-at, nibble-lt, nibble-low, nibble-high}
@@ -155,12 +155,6 @@ packed-of-lanes dims block =
     lanes : List ℕ
     lanes = lanesOf dims block
 
--- demand 2: lane k of a packed block is code k with its pad bits 0, and the lanes of a block, packed, are the block with its pad bits 0
-pub round-trip : (dims : ℕ)
-    → ((codes : List ℕ) (k : ℕ) → k < 32 → laneCode dims (packedBlock dims codes) k ≡ clearedCode dims (recordOf (codeSize dims) codes k))
-    × ((block : List ℕ) → packedBlock dims (lanesOf dims block) ≡ clearedBlock dims block)
-round-trip dims = (lane-of-packed dims, packed-of-lanes dims)
-
 -- a packed block's pad bits are 0, whatever its codes have there
 pub pad-of-packed : (dims : ℕ) (codes : List ℕ) (k d : ℕ) → k < 32 → dims ≤ d → d < 4 * blockGroups dims → laneBit (packedBlock dims codes) k d ≡ 0
 unfolding packedBlock
@@ -168,16 +162,7 @@ pad-of-packed dims codes =
     pad-of-block dims (λ k i. getD (recordOf (codeSize dims) codes k) i 0) (λ k. codeBit (recordOf (codeSize dims) codes k))
     (λ k d. code-bit-lt (recordOf (codeSize dims) codes k) d)
 
--- so 32 codes that were made with pad bits 0, as encode makes them, come back as they are
-pub coded-back : (dims : ℕ) (f b : ℕ → ℕ → ℕ) → ((k d : ℕ) → b k d < 2) → (k : ℕ) → k < 32
-    → laneCode dims (packedBlock dims (joined 32 (λ k. codeOf dims (f k) (b k)))) k ≡ codeOf dims (f k) (b k)
-unfolding recordOf
-coded-back dims f b two k h =
-    lane-of-packed dims (joined 32 (λ k. codeOf dims (f k) (b k))) k h
-    ∙ ap (clearedCode dims) (joined-at (codeSize dims) 32 k (λ k. codeOf dims (f k) (b k)) (λ k _. length-code dims (f k) (b k)) h)
-    ∙ made-cleared dims (f k) (b k) (two k)
-
--- and a block whose pad bits are 0 is what `clearedBlock` leaves alone
+-- a block whose pad bits are 0 is what `clearedBlock` leaves alone
 pub block-cleared : (dims : ℕ) (block : List ℕ) → length block ≡ blockSize dims → ((i : ℕ) → getD block i 0 < 256)
     → ((k d : ℕ) → k < 32 → dims ≤ d → d < 4 * blockGroups dims → laneBit block k d ≡ 0) → clearedBlock dims block ≡ block
 unfolding clearedBlock blockOf

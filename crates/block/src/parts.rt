@@ -27,7 +27,7 @@ fn cleared(x: u8, left: usize) -> u8
 }
 
 // The half of a byte that has group g of a code, or lane 16 g + j of a group: the low one where g is even.
-fn half(x: u8, g: usize) -> u8
+pub fn half(x: u8, g: usize) -> u8
     ensures { λ r. ⌜ (r ≡ x / 16 ^ (g % 2) % 16) × (r < 16) ⌝ }
 {
     if g % 2 == 0 { x % 16 } else { x / 16 }

@@ -118,13 +118,7 @@ pad-of-code dims f b two d l h = digit-of-code dims f b two d h ∙ kept-out dim
 
 -- ---- a code with its pad bits 0
 
--- a code that was made so is left alone
-pub made-cleared : (dims : ℕ) (f b : ℕ → ℕ) → ((d : ℕ) → b d < 2) → clearedCode dims (codeOf dims f b) ≡ codeOf dims f b
-unfolding clearedCode
-made-cleared dims f b two =
-    code-ext dims (λ i. getD (codeOf dims f b) i 0) f (codeBit (codeOf dims f b)) b (factor-of-code dims f b) (bit-of-code dims f b two)
-
--- and so is any code whose pad bits are 0
+-- one whose pad bits are 0 is left alone
 pub code-cleared : (dims : ℕ) (code : List ℕ) → length code ≡ codeSize dims → ((i : ℕ) → getD code i 0 < 256)
     → ((d : ℕ) → dims ≤ d → d < 64 * codeWords dims → codeBit code d ≡ 0) → clearedCode dims code ≡ code
 unfolding clearedCode codeOf

@@ -1,4 +1,4 @@
--- Laws of specs/Digit, each proved once over the width: codes joined in a number, read back out of it, and out of the
+-- Laws of specs/Digits, each proved once over the width: codes joined in a number, read back out of it, and out of the
 -- packed bytes. Assumes nothing.
 use Prim.Native.Nat.{ℕ, _+_, _*_, _/_, _%_, _^_, _<_, _≤_}
 use mathlib.Core.Bool.{Bool, true, false, _||_}

@@ -26,12 +26,12 @@ pub fn packed_size(w: Width, dims: usize) -> usize
     }
 }
 
-// The code of s that starts at its bit o: the lowest bits of what stands there, as many as `levels` has.
-pub fn code_from(levels: u32, s: &[u8], o: usize) -> u32
-    requires { ⌜ (o / 8 < length (now s)) × (0 < levels) ⌝ }
-    ensures { λ r. ⌜ (r ≡ getD (now (s .entry)) (o / 8) 0 / 2 ^ (o % 8) % levels) × (r < levels) ⌝ }
+// The code of s that starts o bits after its byte first: the lowest bits of what stands there, as many as `levels` has.
+pub fn code_from(levels: u32, s: &[u8], first: usize, o: usize) -> u32
+    requires { ⌜ (first + o / 8 < length (now s)) × (0 < levels) ⌝ }
+    ensures { λ r. ⌜ (r ≡ getD (now (s .entry)) (first + o / 8) 0 / 2 ^ (o % 8) % levels) × (r < levels) ⌝ }
 {
-    let b = words::wide(s[o / 8]);
+    let b = words::wide(s[first + o / 8]);
     (b >> (o % 8)) % levels
 }
 
@@ -41,10 +41,10 @@ pub fn digit(w: Width, s: &[u8], i: usize) -> u32
     ensures { λ r. ⌜ (r ≡ digitAt (bitsOf w) (now (s .entry)) i) ⌝ }
 {
     match w {
-        Width::One => code_from(Width::LEVELS_1, s, i),
-        Width::Two => code_from(Width::LEVELS_2, s, i * 2),
-        Width::Four => code_from(Width::LEVELS_4, s, i * 4),
-        Width::Eight => code_from(Width::LEVELS_8, s, i * 8),
+        Width::One => code_from(Width::LEVELS_1, s, 0, i),
+        Width::Two => code_from(Width::LEVELS_2, s, 0, i * 2),
+        Width::Four => code_from(Width::LEVELS_4, s, 0, i * 4),
+        Width::Eight => code_from(Width::LEVELS_8, s, 0, i * 8),
     }
 }
 

@@ -108,7 +108,7 @@ pub fn code_call(
     }
     let size = code::parts::size(dims as usize);
     let r = parts::record_refusal(metric, dims, v, q, code.len(), size, out.len(), 4);
-    if r != 0 {
+    if r != ACCEPTED {
         return r;
     }
     let e = one_code(w, metric_of(metric), v, q, code);
@@ -136,7 +136,7 @@ pub fn block_call(
     }
     let size = block::parts::size(dims as usize);
     let r = parts::record_refusal(metric, dims, v, q, block.len(), size, out.len(), 128);
-    if r != 0 {
+    if r != ACCEPTED {
         return r;
     }
     one_block(w, metric_of(metric), v, q, block, out);

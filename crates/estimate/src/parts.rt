@@ -25,6 +25,7 @@ use code::parts::reader::factors_of;
 use code::parts::reader::words_of;
 use lanes::parts::lane_sums;
 use planes::parts::asymmetric_binary_dot_product;
+use words::ACCEPTED;
 use words::BAD_LENGTH;
 use words::BAD_VALUE;
 use words::MISSING;
@@ -142,7 +143,7 @@ pub fn query_refusal(dims: u32, other: bool, v: Query, q: &[u8], form: bool) -> 
     if bad_query(v, q) {
         return BAD_VALUE;
     }
-    0
+    ACCEPTED
 }
 
 // The same, of a call on one record: the lengths of the record and of the buffer that is written, beside those that they must have.

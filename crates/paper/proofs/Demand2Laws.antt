@@ -4,7 +4,7 @@ use Rattle.scalar.proofs.TableLaws.{table-back}
 use Rattle.code.proofs.CodeLaws.{word-bit, pad-of-code, code-cleared, sign-lt}
 use Rattle.block.proofs.LaneLaws.{lane-bit-lt}
 use Rattle.block.proofs.RoundLaws.{lane-of-packed, packed-of-lanes, pad-of-packed, block-cleared}
-use Rattle.sums.proofs.SumsLaws.{counted}
+use Rattle.sums.proofs.SumsLaws.{counted, packed-sum}
 use Rattle.estimate.proofs.AgreeLaws.{lane-or-none}
 use Rattle.walk.proofs.PackedLaws.{packed-walk}
 use mathlib.Core.Path.{_≡_, _∙_}
@@ -59,6 +59,7 @@ demand-2 =
       lanes = λ query block k q. counted query [] block q nothing .lanes k;
       lane-table = λ query block k q. counted query [] block q nothing .lane-table k;
       lane-most = λ query block k q. counted query [] block q nothing .lane-small k;
+      packed-sums = packed-sum;
       word-bits = λ code w i h l. word-bit code h w i l;
       lane-back = lane-of-packed;
       block-back = packed-of-lanes;

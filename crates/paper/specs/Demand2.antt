@@ -49,6 +49,9 @@ pub record Demand2 : Type 0 where
   pub lane-table : (query block : List ℕ) (k : ℕ) → QueryCodes query
       → tableCount (tableOf query) (laneNibble block k) (blockGroups (length query)) ≡ plainSum query (laneBit block k)
   pub lane-most : (query block : List ℕ) (k : ℕ) → QueryCodes query → plainSum query (laneBit block k) ≤ 65535
+  -- lane k of 32 packed codes has the sum of code k
+  pub packed-sums : (query codes : List ℕ) (k : ℕ) → k < 32
+      → plainSum query (laneBit (packedBlock (length query) codes) k) ≡ plainSum query (codeBit (recordOf (codeSize (length query)) codes k))
   -- bit i of word w of a single code is dimension 64 w + i
   pub word-bits : (code : List ℕ) (w i : ℕ) → Bytes code → i < 64 → bit (codeWord code w) i ≡ codeBit code (64 * w + i)
   -- packing 32 codes and reading lane k back gives code k, pad bits zero; packing the lanes of a block gives the block, pad bits zero

@@ -1,6 +1,6 @@
 -- The calls over bytes make runs of the rule. Assumes nothing.
 use mathlib.Core.Path.{_≡_, refl, sym, subst, ap, _∙_}
-use mathlib.Core.Bool.{Bool, false, _||_, cond}
+use mathlib.Core.Bool.{false, _||_, cond}
 use mathlib.Core.List.{List, [], _∷_}
 use Prim.Native.Nat.{ℕ, zero, suc, _*_, _^_, _<_}
 use native.Mathlib.Omega.{arith}
@@ -70,14 +70,12 @@ told-is (Give p x) n h f =
 told-is Done n h f = rw (told-number Done n)
 
 -- ---- one call
-lists-even : (n : ℕ) (b : Bool) (rest : ℕ) → n ≡ cond b 3 rest → n ≡ 0 → (b ≡ false) × (rest ≡ 0)
-lists-even n b rest p z = no-row b 2 rest (sym p ∙ z)
-
 -- what an accepted call was lent and found
 module _ (e d m out : List ℕ) (z : nextNumber e d m out ≡ 0) where
   rows : ((badLists e d m ≡ false) × (badLength out 16 ≡ false)) × (nextRefusal (stateOf e d m) ≡ 0)
+  unfolding nextNumber
   rows =
-      let a = lists-even (nextNumber e d m out) (badLists e d m || badLength out 16) (nextRefusal (stateOf e d m)) (unfold nextNumber in refl) z in
+      let a = no-row (badLists e d m || badLength out 16) 2 (nextRefusal (stateOf e d m)) z in
       (neither (badLists e d m) (badLength out 16) (a .0), a .1)
 
   next-sized : Sized e d m
@@ -112,10 +110,9 @@ module _ (e d m out : List ℕ) (z : nextNumber e d m out ≡ 0) where
 
 module _ (e d m : List ℕ) (p bits : ℕ) (out : List ℕ) (z : supplyNumber e d m p (ofBits binary32 bits) out ≡ 0) where
   supply-rows : (badLists e d m ≡ false) × (supplyRefusal (stateOf e d m) p (ofBits binary32 bits) ≡ 0)
+  unfolding supplyNumber
   supply-rows =
-      let x = ofBits binary32 bits in
-      let rest = supplyRefusal (stateOf e d m) p x in
-      let a = lists-even (supplyNumber e d m p x out) (badLists e d m || badLength out 4) rest (unfold supplyNumber in refl) z in
+      let a = no-row (badLists e d m || badLength out 4) 2 (supplyRefusal (stateOf e d m) p (ofBits binary32 bits)) z in
       (neither (badLists e d m) (badLength out 4) (a .0) .0, a .1)
 
   supply-sized : Sized e d m
@@ -140,59 +137,114 @@ adds-one : (b : Lists) (s : State) (e f : Event) → f ≡ e → Accepted s e �
 unfolding Adds Run ran
 adds-one b s e f p a q = rw p ((a, tt), q)
 
-next-adds : (b : Lists) (out : List ℕ) → Adds (call b (next out) .lists) (held b) (seen (next out) (call b (next out)))
-unfolding call seen nextAnswer after
-next-adds b out = go (nextNumber e d m out) refl
-  where
-    e : List ℕ
-    e = b .estimates
+module _ (b : Lists) where
+  abbrev e : List ℕ
+  e = b .estimates
 
-    d : List ℕ
-    d = b .distances
+  abbrev d : List ℕ
+  d = b .distances
 
-    m : List ℕ
-    m = b .marks
+  abbrev m : List ℕ
+  m = b .marks
 
-    a : Answer
-    a = answerOf (stateOf e d m)
+  next-adds : (out : List ℕ) → Adds (call b (next out) .lists) (held b) (seen (next out) (call b (next out)))
+  unfolding call seen nextAnswer after
+  next-adds out = go (nextNumber e d m out) refl
+    where
+      a : Answer
+      a = answerOf (stateOf e d m)
 
-    new : List ℕ
-    new = answerBytes a (counted (stateOf e d (answerMarks a m)))
+      new : List ℕ
+      new = answerBytes a (counted (stateOf e d (answerMarks a m)))
 
-    go : (n : ℕ) → nextNumber e d m out ≡ n
-        → Adds (record { estimates = e; distances = d; marks = after n m (answerMarks a m) }) (held b) (cond (eqb n 0) (told (after n out new) ∷ []) [])
-    go zero z =
-        adds-one (record { estimates = e; distances = d; marks = answerMarks a m }) (held b) (eventOf a) (told new)
-        (told-is a (counted (stateOf e d (answerMarks a m))) (place-fits e d m out z a refl) (λ p x h. distance-fits e d m out z p x h))
-        (accepted-is e d m out z a refl) (state-is e d m out z a refl)
-    go (suc k) z = rw (ne-eqb (suc k) 0 (λ q. omega arith)) (adds-none b)
+      go : (n : ℕ) → nextNumber e d m out ≡ n
+          → Adds (record { estimates = e; distances = d; marks = after n m (answerMarks a m) }) (held b) (cond (eqb n 0) (told (after n out new) ∷ []) [])
+      go zero z =
+          adds-one (record { estimates = e; distances = d; marks = answerMarks a m }) (held b) (eventOf a) (told new)
+          (told-is a (counted (stateOf e d (answerMarks a m))) (place-fits e d m out z a refl) (λ p x h. distance-fits e d m out z p x h))
+          (accepted-is e d m out z a refl) (state-is e d m out z a refl)
+      go (suc k) z = rw (ne-eqb (suc k) 0 (λ q. omega arith)) (adds-none b)
 
-supply-adds : (b : Lists) (p bits : ℕ) (out : List ℕ)
-    → Adds (call b (supplies p bits out) .lists) (held b) (seen (supplies p bits out) (call b (supplies p bits out)))
-unfolding call seen supplyAnswer after
-supply-adds b p bits out = go (supplyNumber e d m p x out) refl
-  where
-    e : List ℕ
-    e = b .estimates
+  supply-adds : (p bits : ℕ) (out : List ℕ)
+      → Adds (call b (supplies p bits out) .lists) (held b) (seen (supplies p bits out) (call b (supplies p bits out)))
+  unfolding call seen supplyAnswer after
+  supply-adds p bits out = go (supplyNumber e d m p x out) refl
+    where
+      x : Float
+      x = ofBits binary32 bits
 
-    d : List ℕ
-    d = b .distances
+      stored : List ℕ
+      stored = sets d (4 * p) (floatBytes x)
 
-    m : List ℕ
-    m = b .marks
+      go : (n : ℕ) → supplyNumber e d m p x out ≡ n
+          → Adds (record { estimates = e; distances = after n d stored; marks = after n m (set m p 1) }) (held b) (cond (eqb n 0) (supply p x ∷ []) [])
+      go zero z =
+          adds-one (record { estimates = e; distances = stored; marks = set m p 1 }) (held b) (supply p x) (supply p x) refl
+          (unfold Accepted in supply-rows e d m p bits out z .1) (unfold then in supply-state e d m p bits out z)
+      go (suc k) z = rw (ne-eqb (suc k) 0 (λ q. omega arith)) (adds-none b)
 
-    x : Float
-    x = ofBits binary32 bits
+  -- ---- the reported count
+  next-counts : (out : List ℕ) → call b (next out) .number ≡ 0
+      → reported (next out) (call b (next out)) ≡ notWaiting (held (call b (next out) .lists))
+  unfolding call reported nextAnswer
+  next-counts out z =
+      rw (after-accepted n m marks z, after-accepted n out (answerBytes a count) z)
+      (word-back a count 3 (omega arith) (omega (arith, counted-few t, ap (λ (s : State). s .size) st, size-then s (eventOf a), next-sized e d m out z .most))
+      ∙ counted-is t (subst Clean (sym st) (clean-then s (eventOf a) (accepted-is e d m out z a refl))))
+    where
+      n : ℕ
+      n = nextNumber e d m out
 
-    stored : List ℕ
-    stored = sets d (4 * p) (floatBytes x)
+      s : State
+      s = stateOf e d m
 
-    go : (n : ℕ) → supplyNumber e d m p x out ≡ n
-        → Adds (record { estimates = e; distances = after n d stored; marks = after n m (set m p 1) }) (held b) (cond (eqb n 0) (supply p x ∷ []) [])
-    go zero z =
-        adds-one (record { estimates = e; distances = stored; marks = set m p 1 }) (held b) (supply p x) (supply p x) refl
-        (unfold Accepted in supply-rows e d m p bits out z .1) (unfold then in supply-state e d m p bits out z)
-    go (suc k) z = rw (ne-eqb (suc k) 0 (λ q. omega arith)) (adds-none b)
+      a : Answer
+      a = answerOf s
+
+      marks : List ℕ
+      marks = answerMarks a m
+
+      t : State
+      t = stateOf e d marks
+
+      count : ℕ
+      count = counted t
+
+      st : t ≡ then s (eventOf a)
+      st = state-is e d m out z a refl
+
+      size-then : (s : State) (e : Event) → then s e .size ≡ s .size
+      size-then s e = then-estimate s e .1
+
+  supply-counts : (p bits : ℕ) (out : List ℕ) → call b (supplies p bits out) .number ≡ 0
+      → reported (supplies p bits out) (call b (supplies p bits out)) ≡ notWaiting (held (call b (supplies p bits out) .lists))
+  unfolding call reported supplyAnswer
+  supply-counts p bits out z =
+      rw (after-accepted n d stored z, after-accepted n m marks z, after-accepted n out (bytesOf 4 count) z)
+      (num-bytes count (omega (arith, counted-few t, length-set m p 1, supply-sized e d m p bits out z .most))
+      ∙ counted-is t (subst Clean (sym (supply-state e d m p bits out z))
+      (unfold then in clean-then s (supply p x) (unfold Accepted in supply-rows e d m p bits out z .1))))
+    where
+      x : Float
+      x = ofBits binary32 bits
+
+      n : ℕ
+      n = supplyNumber e d m p x out
+
+      s : State
+      s = stateOf e d m
+
+      stored : List ℕ
+      stored = sets d (4 * p) (floatBytes x)
+
+      marks : List ℕ
+      marks = set m p 1
+
+      t : State
+      t = stateOf e stored marks
+
+      count : ℕ
+      count = counted t
 
 call-adds : (b : Lists) (c : Call) → Adds (call b c .lists) (held b) (seen c (call b c))
 call-adds b (next out) = next-adds b out
@@ -210,87 +262,6 @@ calls-run b (c ∷ cs) =
       run-join (held b) es fs (a .0) (subst (λ (s : State). Run s fs) (a .1) (r .0)),
       r .1 ∙ ap (λ (s : State). ran s fs) (a .1) ∙ sym (ran-join (held b) es fs),
     )
-
--- ---- the reported count
-next-counts : (b : Lists) (out : List ℕ) → call b (next out) .number ≡ 0
-    → reported (next out) (call b (next out)) ≡ notWaiting (held (call b (next out) .lists))
-unfolding call reported nextAnswer
-next-counts b out z =
-    rw (after-accepted n m marks z, after-accepted n out (answerBytes a count) z)
-    (word-back a count 3 (omega arith) (omega (arith, counted-few t, ap (λ (s : State). s .size) st, size-then s (eventOf a), next-sized e d m out z .most))
-    ∙ counted-is t (subst Clean (sym st) (clean-then s (eventOf a) (accepted-is e d m out z a refl))))
-  where
-    e : List ℕ
-    e = b .estimates
-
-    d : List ℕ
-    d = b .distances
-
-    m : List ℕ
-    m = b .marks
-
-    n : ℕ
-    n = nextNumber e d m out
-
-    s : State
-    s = stateOf e d m
-
-    a : Answer
-    a = answerOf s
-
-    marks : List ℕ
-    marks = answerMarks a m
-
-    t : State
-    t = stateOf e d marks
-
-    count : ℕ
-    count = counted t
-
-    st : t ≡ then s (eventOf a)
-    st = state-is e d m out z a refl
-
-    size-then : (s : State) (e : Event) → then s e .size ≡ s .size
-    size-then s e = then-estimate s e .1
-
-supply-counts : (b : Lists) (p bits : ℕ) (out : List ℕ) → call b (supplies p bits out) .number ≡ 0
-    → reported (supplies p bits out) (call b (supplies p bits out)) ≡ notWaiting (held (call b (supplies p bits out) .lists))
-unfolding call reported supplyAnswer
-supply-counts b p bits out z =
-    rw (after-accepted n d stored z, after-accepted n m marks z, after-accepted n out (bytesOf 4 count) z)
-    (num-bytes count (omega (arith, counted-few t, length-set m p 1, supply-sized e d m p bits out z .most))
-    ∙ counted-is t (subst Clean (sym (supply-state e d m p bits out z))
-    (unfold then in clean-then s (supply p x) (unfold Accepted in supply-rows e d m p bits out z .1))))
-  where
-    e : List ℕ
-    e = b .estimates
-
-    d : List ℕ
-    d = b .distances
-
-    m : List ℕ
-    m = b .marks
-
-    x : Float
-    x = ofBits binary32 bits
-
-    n : ℕ
-    n = supplyNumber e d m p x out
-
-    s : State
-    s = stateOf e d m
-
-    stored : List ℕ
-    stored = sets d (4 * p) (floatBytes x)
-
-    marks : List ℕ
-    marks = set m p 1
-
-    t : State
-    t = stateOf e stored marks
-
-    count : ℕ
-    count = counted t
 
 pub calls-count : (b : Lists) (c : Call) → call b c .number ≡ 0 → reported c (call b c) ≡ notWaiting (held (call b c .lists))
 calls-count b (next out) z = next-counts b out z

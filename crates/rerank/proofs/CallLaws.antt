@@ -1,21 +1,20 @@
 -- The answers of `next` and `supply`, a law a return. Assumes nothing.
 use mathlib.Core.Path.{_≡_, refl, sym, ap, ap₂, _∙_}
 use mathlib.Core.Bool.{Bool, true, false, not, _||_, cond, or-true}
-use mathlib.Core.List.{List, [], _∷_, _++_}
+use mathlib.Core.List.{List, _++_}
 use Prim.Native.Nat.{ℕ, zero, suc, _+_, _*_, _<_, _≤_}
 use native.Mathlib.Nat.{zero-add}
 use native.Mathlib.Omega.{arith}
-use borrow.Author.Tests.{lt-ltb, le-ltb}
 use lib.Dec.{eqb}
 use lib.ListN.{length, getD, set, length-set, length-append}
-use lib.Seq.{sets}
+use lib.Seq.{sets, set-out}
 use lib.Ieee.{Float, isNan, ne, binary32, ofBits, toBits}
 use Rattle.words.specs.Bytes.{bytesOf, f32At, floatBytes}
 use Rattle.words.specs.Limits.{mostPlaces}
 use Rattle.words.specs.Refusals.{after, orElse, badLength}
 use Rattle.words.proofs.ByteLaws.{length-bytesOf, length-floatBytes, sets-append, sets-all}
 use Rattle.words.proofs.FloatLaws.{nan-tells, number-tells}
-use Rattle.words.proofs.RefusalLaws.{no-row, neither, length-is, after-refused, sized, unsized}
+use Rattle.words.proofs.RefusalLaws.{no-row, neither, length-is, after-refused}
 use Rattle.rerank.specs.Rerank.{IsLeast, answerOf, asksFor, missing, badMark, nextRefusal, supplyRefusal, oneOrTwo, counted}
 use Rattle.rerank.specs.Calls.{stateOf, badLists, answerMarks, answerBytes, nextNumber, nextAnswer, supplyNumber, supplyAnswer}
 use Rattle.rerank.specs.Demand.{notWaiting}
@@ -31,38 +30,13 @@ use Rattle.rerank.proofs.TallyLaws.{sum-put, counted-few, counted-is}
 use Rattle.rerank.proofs.FoundLaws.{sized-of, found-refusal}
 use Rattle.rerank.proofs.StateLaws.{state-marked}
 
--- ---- the lengths, as the code tests them
-module _ (e d m : List ℕ) (other : Bool) where
-  pub lists-long : mostPlaces < length m → true ≡ (badLists e d m || other)
-  unfolding badLists
-  lists-long h = rw (lt-ltb mostPlaces (length m) h)
-
-  module _ (h : length m ≤ mostPlaces) where
-    pub lists-estimates : (length e ≡ 4 * length m → ⊥) → true ≡ (badLists e d m || other)
-    unfolding badLists
-    lists-estimates k = rw (le-ltb mostPlaces (length m) h, unsized e (4 * length m) k)
-
-    module _ (k : length e ≡ 4 * length m) where
-      pub lists-distances : (length d ≡ 4 * length m → ⊥) → true ≡ (badLists e d m || other)
-      unfolding badLists
-      lists-distances l = rw (le-ltb mostPlaces (length m) h, sized e (4 * length m) k, unsized d (4 * length m) l)
-
-      pub lists-other : length d ≡ 4 * length m → other ≡ (badLists e d m || other)
-      unfolding badLists
-      lists-other l = rw (le-ltb mostPlaces (length m) h, sized e (4 * length m) k, sized d (4 * length m) l)
-
 -- ---- what `next` writes
-set-past : (l : List ℕ) (i v : ℕ) → length l ≤ i → set l i v ≡ l
-set-past [] i v h = refl
-set-past (x ∷ l) zero v h = absurd (omega arith)
-set-past (x ∷ l) (suc i) v h = ap {B = List ℕ} (λ (r : List ℕ). x ∷ r) (set-past l i v (omega arith))
-
 module _ (a : Answer) (m : List ℕ) where
   pub marks-give : (p : ℕ) (x : Float) → a ≡ Give p x → set m p 2 ≡ answerMarks a m
   marks-give p x e = rw e
 
   pub marks-past : (p : ℕ) (x : Float) → a ≡ Give p x → length m ≤ p → m ≡ answerMarks a m
-  marks-past p x e h = rw e (sym (set-past m p 2 h))
+  marks-past p x e h = rw e (sym (set-out m p 2 h))
 
 -- four stores one after the other
 pub four-stores : (out o1 o2 o3 o4 : List ℕ) (number place : ℕ) (distance : Float) (count : ℕ) → length out ≡ 16 → o1 ≡ sets out 0 (bytesOf 4 number)

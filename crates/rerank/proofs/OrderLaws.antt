@@ -2,24 +2,18 @@
 use mathlib.Core.Path.{_≡_, refl, sym, subst}
 use mathlib.Core.Logic.{_⊎_, inl, inr}
 use mathlib.Core.Bool.{Bool, true, false, not}
-use Prim.Native.Nat.{ℕ, suc, _+_, _*_, _≤_, _<_}
-use native.Mathlib.Nat.{mul-le-mul-right, mul-lt-mul-of-pos-right, mul-pos}
+use Prim.Native.Nat.{ℕ, _+_, _*_, _≤_, _<_}
+use native.Mathlib.Nat.{eq-zero-or-pos, mul-le-mul-right, mul-lt-mul-of-pos-right, mul-pos}
 use native.Mathlib.Decide.{decLt}
 use native.Mathlib.Omega.{arith}
-use lib.Dec.{T, ltb, ltb→lt, lt→ltb}
-use lib.Pow.{pow-pos}
-use lib.IntN.{ℤ, pos, negsuc}
+use lib.Dec.{T, ltb→lt, lt→ltb}
+use denote.Floats.{passes}
+use lib.Ieee.Bits.{is-true}
+use lib.Ieee.Fits.{down-pos}
+use lib.Ieee.Positive.{first-pos}
 use lib.Ieee.{Float, nan, inf, fin, up, down, below, lt, isNan}
 
 -- ---- tests
-pub true-of : (b : Bool) → T b → b ≡ true
-true-of true t = refl
-true-of false t = absurd t
-
-pub of-true : (b : Bool) → b ≡ true → T b
-of-true true e = tt
-of-true false e = absurd (subst {A = Bool} (λ (x : Bool). T (not x)) e tt)
-
 pub false-of : (b : Bool) → (b ≡ true → ⊥) → b ≡ false
 false-of true f = absurd (f refl)
 false-of false f = refl
@@ -42,12 +36,6 @@ co-fractions A B C a b c pb h =
         omega (arith, mul-lt-mul-of-pos-right h pb, mul-le-mul-right c f1, mul-le-mul-right a g1)
 
 -- the same with signs: what `lt` asks of two finite values
-zero-or : (n : ℕ) → (n ≡ 0) ⊎ (0 < n)
-zero-or n = elim (decLt 0 n) [ yes p ↦ inr p | no f ↦ inl (omega arith) ]
-
-positive : (C a : ℕ) → 0 < C * a → 0 < C
-positive C a h = elim (zero-or C) [ inl e ↦ absurd (omega (arith, subst (λ (x : ℕ). 0 < x * a) e h)) | inr p ↦ p ]
-
 co-below : (s u t : Bool) (A B C a b c : ℕ) → 0 < a → 0 < b → 0 < c
     → T (below s (A * c) t (C * a)) → T (below s (A * b) u (B * a)) ⊎ T (below u (B * c) t (C * b))
 co-below false false false A B C a b c pa pb pc h =
@@ -57,12 +45,12 @@ co-below false false false A B C a b c pa pb pc h =
     ]
 co-below false false true A B C a b c pa pb pc h = absurd h
 co-below false true false A B C a b c pa pb pc h =
-    inr (lt→ltb 0 (B * c + C * b) (omega (arith, mul-pos (positive C a (omega (arith, ltb→lt (A * c) (C * a) h))) pb)))
+    inr (lt→ltb 0 (B * c + C * b) (omega (arith, mul-pos (first-pos C a (omega (arith, ltb→lt (A * c) (C * a) h))) pb)))
 co-below false true true A B C a b c pa pb pc h = absurd h
 co-below true false false A B C a b c pa pb pc h =
-    elim (zero-or A) [
+    elim (eq-zero-or-pos A) [
       | inr p ↦ inl (lt→ltb 0 (A * b + B * a) (omega (arith, mul-pos p pb)))
-      | inl e ↦ elim (zero-or B) [
+      | inl e ↦ elim (eq-zero-or-pos B) [
         | inr p ↦ inl (lt→ltb 0 (A * b + B * a) (omega (arith, mul-pos p pa)))
         | inl z ↦ inr (lt→ltb (B * c) (C * b) (at-zero e z))
       ]
@@ -70,14 +58,14 @@ co-below true false false A B C a b c pa pb pc h =
   where
     at-zero : A ≡ 0 → B ≡ 0 → B * c < C * b
     at-zero e z =
-        let p : 0 < C = positive C a (omega (arith, subst (λ (x : ℕ). 0 < x * c + C * a) e (ltb→lt 0 (A * c + C * a) h))) in
+        let p : 0 < C = first-pos C a (omega (arith, subst (λ (x : ℕ). 0 < x * c + C * a) e (ltb→lt 0 (A * c + C * a) h))) in
         subst (λ (x : ℕ). x * c < C * b) (sym z) (omega (arith, mul-pos p pb))
 co-below true false true A B C a b c pa pb pc h =
-    inl (lt→ltb 0 (A * b + B * a) (omega (arith, mul-pos (positive A c (omega (arith, ltb→lt (C * a) (A * c) h))) pb)))
+    inl (lt→ltb 0 (A * b + B * a) (omega (arith, mul-pos (first-pos A c (omega (arith, ltb→lt (C * a) (A * c) h))) pb)))
 co-below true true false A B C a b c pa pb pc h =
-    elim (zero-or B) [
+    elim (eq-zero-or-pos B) [
       | inr p ↦ inr (lt→ltb 0 (B * c + C * b) (omega (arith, mul-pos p pc)))
-      | inl z ↦ elim (zero-or C) [
+      | inl z ↦ elim (eq-zero-or-pos C) [
         | inr p ↦ inr (lt→ltb 0 (B * c + C * b) (omega (arith, mul-pos p pb)))
         | inl e ↦ inl (lt→ltb (B * a) (A * b) (at-zero e z))
       ]
@@ -85,17 +73,13 @@ co-below true true false A B C a b c pa pb pc h =
   where
     at-zero : C ≡ 0 → B ≡ 0 → B * a < A * b
     at-zero e z =
-        let p : 0 < A = positive A c (omega (arith, subst (λ (x : ℕ). 0 < A * c + x * a) e (ltb→lt 0 (A * c + C * a) h))) in
+        let p : 0 < A = first-pos A c (omega (arith, subst (λ (x : ℕ). 0 < A * c + x * a) e (ltb→lt 0 (A * c + C * a) h))) in
         subst (λ (x : ℕ). x * a < A * b) (sym z) (omega (arith, mul-pos p pb))
 co-below true true true A B C a b c pa pb pc h =
     elim (co-fractions C B A c b a pb (ltb→lt (C * a) (A * c) h)) [
       | inl p ↦ inr (lt→ltb (C * b) (B * c) p)
       | inr q ↦ inl (lt→ltb (B * a) (A * b) q)
     ]
-
-down-pos : (e : ℤ) → 0 < down e
-down-pos (pos k) = omega arith
-down-pos (negsuc k) = pow-pos (suc k)
 
 -- ---- the laws
 co : (x y z : Float) → T (not (isNan y)) → T (lt x z) → T (lt x y) ⊎ T (lt y z)
@@ -163,13 +147,13 @@ num-T : (x : Float) → Num x → T (not (isNan x))
 num-T x e = subst {A = Bool} (λ (b : Bool). T (not b)) (sym e) tt
 
 pub less-asym : (x y : Float) → Less x y → NotLess y x
-less-asym x y p = false-of (lt y x) (λ q. asym x y (of-true (lt x y) p) (of-true (lt y x) q))
+less-asym x y p = false-of (lt y x) (λ q. asym x y (passes (lt x y) p) (passes (lt y x) q))
 
 pub less-irrefl : (x : Float) → NotLess x x
-less-irrefl x = false-of (lt x x) (λ q. asym x x (of-true (lt x x) q) (of-true (lt x x) q))
+less-irrefl x = false-of (lt x x) (λ q. asym x x (passes (lt x x) q) (passes (lt x x) q))
 
 pub less-co : (x y z : Float) → Num y → Less x z → Less x y ⊎ Less y z
-less-co x y z n h = elim (co x y z (num-T y n) (of-true (lt x z) h)) [ inl p ↦ inl (true-of (lt x y) p) | inr q ↦ inr (true-of (lt y z) q) ]
+less-co x y z n h = elim (co x y z (num-T y n) (passes (lt x z) h)) [ inl p ↦ inl (is-true (lt x y) p) | inr q ↦ inr (is-true (lt y z) q) ]
 
 -- `not below` is transitive through a number
 pub notLess-trans : (x y z : Float) → Num y → NotLess x y → NotLess y z → NotLess x z

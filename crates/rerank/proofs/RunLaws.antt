@@ -8,7 +8,7 @@ use native.Mathlib.Decide.{ℕ-discrete}
 use native.Mathlib.Omega.{arith}
 use lib.Ieee.{Float, lt}
 use Rattle.words.specs.Limits.{mostMark}
-use Rattle.rerank.specs.Rerank.{State, answerOf, nextRefusal, supplyRefusal, given, supplied, Event, asked, supply, gave, done, Accepted, then, ran, Run}
+use Rattle.rerank.specs.Rerank.{State, put, answerOf, nextRefusal, supplyRefusal, given, supplied, Event, asked, supply, gave, done, Accepted, then, ran, Run}
 use Rattle.rerank.specs.Demand.{Lower, Supplied}
 use Rattle.rerank.specs.declared.Answer.the-variants.{Ask, Give}
 use Rattle.rerank.proofs.OrderLaws.{Num, Less, NotLess, false-of, true-false, less-asym, notLess-trans}
@@ -64,22 +64,22 @@ ran-estimate s (e ∷ es) =
     (r .0 ∙ t .0, r .1 ∙ t .1)
 
 -- ---- the marks that a call leaves
+
+-- a mark other than the one that was put was there before
+put-back : (m : ℕ → ℕ) (p v k q : ℕ) → (v ≡ k → ⊥) → put m p v q ≡ k → m q ≡ k
+put-back m p v k q n =
+    at-or-else (λ x. put m p v x ≡ k → m x ≡ k) p q (λ e. absurd (n (sym (put-here m p v) ∙ e))) (λ g e. sym (put-else m p v q g) ∙ e)
+
 module _ (s : State) (p : ℕ) where
   -- one that waits or is asked after a Give did so before
   pub given-waits : (q : ℕ) → given s p .mark q ≡ 0 → s .mark q ≡ 0
-  given-waits q =
-      at-or-else (λ k. given s p .mark k ≡ 0 → s .mark k ≡ 0) p q
-      (λ e. let z : _≡_ {A = ℕ} 2 0 = sym (put-here (s .mark) p 2) ∙ e in absurd (omega arith)) (λ g e. sym (put-else (s .mark) p 2 q g) ∙ e)
+  given-waits q = put-back (s .mark) p 2 0 q (λ e. omega arith)
 
   pub given-asked : (q : ℕ) → given s p .mark q ≡ 1 → s .mark q ≡ 1
-  given-asked q =
-      at-or-else (λ k. given s p .mark k ≡ 1 → s .mark k ≡ 1) p q
-      (λ e. let z : _≡_ {A = ℕ} 2 1 = sym (put-here (s .mark) p 2) ∙ e in absurd (omega arith)) (λ g e. sym (put-else (s .mark) p 2 q g) ∙ e)
+  given-asked q = put-back (s .mark) p 2 1 q (λ e. omega arith)
 
   pub supplied-waits : (d : Float) (q : ℕ) → supplied s p d .mark q ≡ 0 → s .mark q ≡ 0
-  supplied-waits d q =
-      at-or-else (λ k. supplied s p d .mark k ≡ 0 → s .mark k ≡ 0) p q
-      (λ e. let z : _≡_ {A = ℕ} 1 0 = sym (put-here (s .mark) p 1) ∙ e in absurd (omega arith)) (λ g e. sym (put-else (s .mark) p 1 q g) ∙ e)
+  supplied-waits d q = put-back (s .mark) p 1 0 q (λ e. omega arith)
 
 -- ---- calls keep a state clean
 clean-supplied : (s : State) (p : ℕ) (d : Float) → Supplying s p d → Clean (supplied s p d)
@@ -108,11 +108,6 @@ clean-then s (asked p) a = next-clean s (a .0)
 clean-then s (supply p d) a = clean-supplied s p d (supplying s p d a)
 clean-then s (gave p d) a = clean-given s p d (giving s p d a)
 clean-then s done a = next-clean s (a .0)
-
-pub clean-run : (s : State) (es : List Event) → Run s es → Clean s → Clean (ran s es)
-unfolding Run ran
-clean-run s [] r c = c
-clean-run s (e ∷ es) r c = clean-run (then s e) es (r .1) (clean-then s e (r .0))
 
 -- ---- order without the premise. `Past d s`: nothing that is still to come may fall below d, but for a candidate whose own estimate was
 -- above its distance

@@ -100,7 +100,7 @@ fn rule_on(e: &[u8], d: &[u8], m: &[u8], other: bool, nan: bool) -> Ruling
     let s = scan_lists(e, d, m);
     let keys = s.keys;
     let refused = refusal(nan, keys.missing, s.bad);
-    if refused != 0 {
+    if refused != words::ACCEPTED {
         return refused_with(refused);
     }
     Ruling {
@@ -154,7 +154,7 @@ pub fn next(estimates: &[u8], distances: &[u8], marks: &mut [u8], out: &mut [u8]
         ≡ nextAnswer (now (estimates .entry)) (now (distances .entry)) (now (marks .entry)) (now (out .entry)) ⌝ }
 {
     let r = rule_on(estimates, distances, marks, out.len() != 16, false);
-    if r.refused != 0 {
+    if r.refused != words::ACCEPTED {
         return r.refused;
     }
     let a = r.answer;
@@ -177,7 +177,7 @@ fn asks_for(a: Answer, place: u32) -> bool
 fn judge(r: Ruling, place: u32) -> u32
     ensures { λ n. ⌜ n ≡ orElse (r .refused) (cond (asksFor (r .answer) place) 0 9) ⌝ }
 {
-    if r.refused != 0 {
+    if r.refused != words::ACCEPTED {
         return r.refused;
     }
     let a = r.answer;
@@ -207,7 +207,7 @@ pub fn supply(
         distance != distance,
     );
     let refused = judge(r, place);
-    if refused != 0 {
+    if refused != words::ACCEPTED {
         return refused;
     }
     let at = place as usize;

@@ -4,7 +4,7 @@ use mathlib.Core.Bool.{true, false, _||_}
 use mathlib.Core.List.{List}
 use mathlib.Core.Path.{_≡_, refl, sym, ap, _∙_}
 use native.Mathlib.Omega.{arith}
-use native.Mathlib.Nat.{mul-comm, mul-le-mul-right}
+use native.Mathlib.Nat.{mul-comm}
 use lib.ListN.{length, getD}
 use lib.Seq.{sets}
 use lib.Pow.{pow-pos}
@@ -92,10 +92,6 @@ piece-more m g h l at k p e =
     rw f (sets-append l at (joined k g) (g k)) ∙ ap (sets l at) (sym (joined-more k g))
 
 -- ---- the loop that adds the entries at the digits
-
--- an entry of dimension i is within the table
-pub in-table : (i dims n c : ℕ) → i < dims → c < n → i * n + c < dims * n
-in-table i dims n c h l = omega (arith, mul-le-mul-right n h)
 
 -- digit j from a dimension that begins a byte
 module _ (w at j : ℕ) (h : isWidth w ≡ true) (whole : at * w % 8 ≡ 0) where

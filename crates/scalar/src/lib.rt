@@ -26,7 +26,7 @@ pub fn scalar_encode(
     let n = dims as usize;
     let size = digits::parts::packed_size(w, n);
     let r = parts::tests::refusal(n, vector, min, max, code.len() != size, false);
-    if r != 0 {
+    if r != words::ACCEPTED {
         return r;
     }
     parts::code::encode(w, n, vector, min, max, code);

@@ -1,6 +1,6 @@
 -- Module 6 by bit planes: the four counts, weighted 1, 2, 4, 8, are the plain sum. Assumes nothing.
 use mathlib.Core.Path.{_≡_, ap, _∙_}
-use Prim.Native.Nat.{ℕ, zero, suc, _+_, _-_, _*_, _/_, _%_, _<_, _≤_}
+use Prim.Native.Nat.{ℕ, zero, suc, _+_, _*_, _/_, _%_, _<_, _≤_}
 use mathlib.Core.List.{List}
 use native.Mathlib.Omega.{arith}
 use native.Mathlib.Nat.{zero-mul, mul-zero, mul-one}

@@ -3,7 +3,7 @@ use mathlib.Core.Path.{_≡_, sym, ap, ap₂, _∙_}
 use Prim.Native.Nat.{ℕ, _+_, _*_, _/_, _%_, _^_, _<_, _≤_}
 use mathlib.Core.List.{List}
 use native.Mathlib.Omega.{arith}
-use native.Mathlib.Nat.{zero-add, mod-lt, div-one, mod-eq-of-lt}
+use native.Mathlib.Nat.{zero-add, mod-lt}
 use lib.Dec.{lit<}
 use lib.ListN.{length, getD, drop}
 use lib.Seq.{getD-drop}
@@ -20,20 +20,6 @@ use Rattle.sums.proofs.GroupLaws.{group-four, groups-plain}
 pub groups-nibble-lt : (groups : List ℕ) (k g : ℕ) → groupsNibble groups k g < 16
 unfolding groupsNibble
 groups-nibble-lt groups k g = mod-lt (getD groups (16 * g + k % 16) 0 / 16 ^ (k / 16)) (lit< tt)
-
--- the nibble of a low lane and of a high one
-pub nibble-low : (groups : List ℕ) (k g : ℕ) → k < 16 → groupsNibble groups k g ≡ getD groups (16 * g + k % 16) 0 % 16
-unfolding groupsNibble
-nibble-low groups k g h =
-    let e : k / 16 ≡ 0 = omega arith in
-    ap (λ (x : ℕ). getD groups (16 * g + k % 16) 0 / 16 ^ x % 16) e ∙ ap (λ (x : ℕ). x % 16) (div-one _)
-
-pub nibble-high : (groups : List ℕ) (k g : ℕ) → 16 ≤ k → k < 32 → getD groups (16 * g + k % 16) 0 < 256
-    → groupsNibble groups k g ≡ getD groups (16 * g + k % 16) 0 / 16
-unfolding groupsNibble
-nibble-high groups k g h l byte =
-    let e : k / 16 ≡ 1 = omega arith in
-    ap (λ (x : ℕ). getD groups (16 * g + k % 16) 0 / 16 ^ x % 16) e ∙ mod-eq-of-lt {n = getD groups (16 * g + k % 16) 0 / 16} (omega arith)
 
 -- a block's bytes after its factors
 pub groups-of-block : (block : List ℕ) (k g : ℕ) → groupsNibble (drop 512 block) k g ≡ laneNibble block k g

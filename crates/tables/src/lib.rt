@@ -29,7 +29,7 @@ pub fn scalar_table(
     let size = parts::table::table_size(w, n);
     let form = words::bad_form(metric);
     let r = refusal(n, vector, min, max, table.len() != size, form);
-    if r != 0 {
+    if r != words::ACCEPTED {
         return r;
     }
     parts::table::fill(words::metric_of(metric), w, n, vector, min, max, table);

@@ -2,7 +2,7 @@
 ghost use mathlib.Core.Path.{_≡_};
 ghost use mathlib.Core.Bool.{_||_};
 ghost use mathlib.Core.List.{_++_};
-ghost use Prim.Native.Nat.{_+_, _-_, _*_, _<_, _≤_};
+ghost use Prim.Native.Nat.{_+_, _-_, _*_, _^_, _<_, _≤_};
 ghost use lib.Seq.{sets};
 ghost use lib.ListN.{length, take, drop, replicate};
 ghost use Rattle.words.specs.Bytes.{bytesOf, wordsOf};
@@ -226,7 +226,7 @@ fn fill_bounds(
 
 // The ids from start on in the first c places.
 fn put_ids(ids: &mut [u8], start: u32, c: usize)
-    requires { ⌜ (4 * c ≤ length (now ids)) × (c ≤ mostPlaces) × (start + c ≤ 4294967296) ⌝ }
+    requires { ⌜ (4 * c ≤ length (now ids)) × (c ≤ mostPlaces) × (start + c ≤ 2 ^ 32) ⌝ }
     ensures { λ _. ⌜ now (ids .exit) ≡ wordsOf c (λ j. start + j) ++ drop (4 * c) (now (ids .entry)) ⌝ }
 {
     let mut i = 0usize;
@@ -258,7 +258,7 @@ fn put_lists(
     marks: &mut [u8],
     count: &mut [u8],
 )
-    requires { ⌜ (start + c ≤ 4294967296) × (c ≤ mostPlaces) × (length (now bs) ≡ 4 * c) × (4 * c ≤ length (now ids)) × (4 * c ≤ length (now bounds)) ⌝ }
+    requires { ⌜ (start + c ≤ 2 ^ 32) × (c ≤ mostPlaces) × (length (now bs) ≡ 4 * c) × (4 * c ≤ length (now ids)) × (4 * c ≤ length (now bounds)) ⌝ }
     requires { ⌜ (c ≤ length (now marks)) × (length (now count) ≡ 4) ⌝ }
     ensures ids { λ _. ⌜ now (ids .exit) ≡ wordsOf c (λ j. start + j) ++ drop (4 * c) (now (ids .entry)) ⌝ }
     ensures bounds { λ _. ⌜ now (bounds .exit) ≡ now (bs .entry) ++ drop (4 * c) (now (bounds .entry)) ⌝ }
@@ -274,7 +274,7 @@ fn put_lists(
 // ---- refusals
 
 fn times(n: usize, size: usize) -> usize
-    requires { ⌜ (n ≤ 4294967295) × (size ≤ blockSize mostDims) ⌝ }
+    requires { ⌜ (n < 2 ^ 32) × (size ≤ blockSize mostDims) ⌝ }
     ensures { λ r. ⌜ r ≡ n * size ⌝ }
 {
     n * size
@@ -380,7 +380,7 @@ fn range_refusal(n: u32, start: u32, end: u32, places: usize) -> u32
     if places < range_len(start, end) {
         return NO_ROOM;
     }
-    0
+    ACCEPTED
 }
 
 // The ids of a range with their lower bounds, marks 0, and the count. The bounds go to a buffer of the walk's own, so that
@@ -406,11 +406,11 @@ pub fn walk(
 {
     let lists = bad_lists(ids.len(), bounds.len(), marks.len(), count.len());
     let r = judge(metric, layout, dims, v, q, records.len(), n, lists);
-    if r != 0 {
+    if r != ACCEPTED {
         return r;
     }
     let r = range_refusal(n, start, end, marks.len());
-    if r != 0 {
+    if r != ACCEPTED {
         return r;
     }
     let c = range_len(start, end);

@@ -5,7 +5,7 @@ use mathlib.Core.List.{List}
 use mathlib.Core.Path.{_≡_, refl, sym, ap, _∙_, subst}
 use native.Mathlib.Omega.{arith}
 use native.Mathlib.Numerals.{add-one}
-use native.Mathlib.Nat.{lt-of-not-le, not-le-of-lt, lt-of-lt-of-le, mul-div-cancel, zero-add}
+use native.Mathlib.Nat.{add-zero, add-suc, lt-of-not-le, not-le-of-lt, lt-of-lt-of-le, mul-div-cancel, zero-add}
 use lib.Dec.{T, eqb, leb}
 use lib.Pow.{pow-mono}
 use lib.Ieee.{Float, nan, inf, fin, up, down, size, isNan, nanBits, odd, ofFields, ofBits, toBits, div, ne, binary32}
@@ -144,10 +144,4 @@ added-more s n f = ap (λ (k : ℕ). addedTo s k f) (add-one n)
 pub added-on : (s : Float) (k n : ℕ) (f : ℕ → Float) → addedTo (addedTo s k f) n (λ j. f (k + j)) ≡ addedTo s (k + n) f
 unfolding addedTo
 added-on s k zero f = ap (λ (z : ℕ). addedTo s z f) (sym (add-zero k))
-  where
-    add-zero : (k : ℕ) → k + 0 ≡ k
-    add-zero k = omega arith
 added-on s k (suc n) f = ap (λ (x : Float). x ⊕ f (k + n)) (added-on s k n f) ∙ ap (λ (z : ℕ). addedTo s z f) (sym (add-suc k n))
-  where
-    add-suc : (k n : ℕ) → k + suc n ≡ suc (k + n)
-    add-suc k n = omega arith

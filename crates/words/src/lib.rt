@@ -8,7 +8,6 @@ ghost use lib.Seq.{sets};
 ghost use mathlib.Core.Bool.{false, not, _||_, cond};
 ghost use Rattle.words.specs.Bytes.{numAt, bytesOf, f32At, floatBytes};
 ghost use Rattle.words.specs.Floats.{missing, anyNan};
-ghost use Rattle.words.specs.Limits.{mostScalarDims};
 ghost use Rattle.words.specs.Lists.{anyBelow, anyAbove};
 ghost use Rattle.words.specs.Metrics.{metricOf};
 ghost use Rattle.words.specs.Refusals.{answer, badDims, badLength, badForm};
@@ -146,7 +145,7 @@ pub fn f32_at(s: &[u8], i: usize) -> f32
     ensures { λ r. ⌜ r ≡ f32At (now (s .entry)) i ⌝ }
 {
     let n = u32_at(s, 4 * i);
-    if 0x7F80_0000 < n % 0x8000_0000 {
+    if INFINITY < n % 0x8000_0000 {
         return 0.0 / 0.0;
     }
     f32::from_bits(n)
@@ -183,7 +182,7 @@ pub fn nan_one(n: u32) -> u32
 
 // Whether the bits of one of the first n floats of s, their sign dropped, are at least `least`.
 fn any_from(least: u32, s: &[u8], n: usize) -> bool
-    requires { ⌜ (4 * n ≤ length (now s)) × (n ≤ mostScalarDims) ⌝ }
+    requires { ⌜ (4 * n ≤ length (now s)) × (n < 2 ^ 32) ⌝ }
     ensures { λ r. ⌜ r ≡ anyBelow n (λ i. leb least (numAt 4 (now (s .entry)) (4 * i) % 0x8000_0000)) ⌝ }
 {
     let mut count: u32 = 0;
@@ -197,7 +196,7 @@ fn any_from(least: u32, s: &[u8], n: usize) -> bool
 
 // Whether one of the first n floats of s is a NaN or an infinity.
 pub fn any_missing(s: &[u8], n: usize) -> bool
-    requires { ⌜ (4 * n ≤ length (now s)) × (n ≤ mostScalarDims) ⌝ }
+    requires { ⌜ (4 * n ≤ length (now s)) × (n < 2 ^ 32) ⌝ }
     ensures { λ r. ⌜ r ≡ missing n (now (s .entry)) ⌝ }
 {
     any_from(INFINITY, s, n)
@@ -205,7 +204,7 @@ pub fn any_missing(s: &[u8], n: usize) -> bool
 
 // Whether one of the first n floats of s is a NaN.
 pub fn any_nan(s: &[u8], n: usize) -> bool
-    requires { ⌜ (4 * n ≤ length (now s)) × (n ≤ mostScalarDims) ⌝ }
+    requires { ⌜ (4 * n ≤ length (now s)) × (n < 2 ^ 32) ⌝ }
     ensures { λ r. ⌜ r ≡ anyNan n (now (s .entry)) ⌝ }
 {
     any_from(LEAST_NAN, s, n)

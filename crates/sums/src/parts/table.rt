@@ -8,6 +8,7 @@ ghost use Rattle.words.specs.Limits.{mostDims, topCode};
 ghost use Rattle.block.specs.Block.{blockGroups, blockSize};
 ghost use Rattle.sums.specs.Sums.{groupSum, groupsNibble, QueryCodes};
 ghost use Rattle.sums.specs.Parts.{Table, Scanned, LaneSums};
+use block::parts::half;
 use words::byte_at;
 use words::wide;
 
@@ -73,12 +74,7 @@ fn nibble(groups: &[u8], k: usize, g: usize) -> usize
     requires { ⌜ (k < 32) × (16 * g + 16 ≤ length (now groups)) ⌝ }
     ensures { λ r. ⌜ (r ≡ groupsNibble (now (groups .entry)) k g) × (r < 16) ⌝ }
 {
-    let c = groups[16 * g + k % 16];
-    if k < 16 {
-        (c % 16) as usize
-    } else {
-        (c / 16) as usize
-    }
+    half(groups[16 * g + k % 16], k / 16) as usize
 }
 
 // Adds what the lanes pick in group g.

@@ -2,23 +2,15 @@
 // with literals for each width.
 ghost use mathlib.Core.Path.{_≡_};
 ghost use mathlib.Core.Bool.{true};
-ghost use Prim.Native.Nat.{_+_, _*_, _/_, _%_, _^_, _≤_, _<_};
-ghost use lib.ListN.{length, getD};
+ghost use Prim.Native.Nat.{_+_, _*_, _%_, _≤_, _<_};
+ghost use lib.ListN.{length};
 ghost use Rattle.words.specs.Floats.{addedTo};
 ghost use Rattle.words.specs.Limits.{mostScalarDims};
 ghost use Rattle.digits.specs.Digits.{bitsOf, isWidth, levels, packedSize};
 ghost use Rattle.scalar.specs.Table.{tableSize, termAt, sumOf, distanceOf};
 use digits::Width;
+use digits::parts::code_from;
 use words::Metric;
-
-// The code of s that starts o bits after its byte first: the lowest bits of what stands there, as many as `levels` has.
-fn code_from(levels: u32, s: &[u8], first: usize, o: usize) -> u32
-    requires { ⌜ (first + o / 8 < length (now s)) × (0 < levels) ⌝ }
-    ensures { λ r. ⌜ (r ≡ getD (now (s .entry)) (first + o / 8) 0 / 2 ^ (o % 8) % levels) × (r < levels) ⌝ }
-{
-    let b = words::wide(s[first + o / 8]);
-    (b >> (o % 8)) % levels
-}
 
 // s with the entries of m dimensions from at on added, one after the other. Dimension at begins a byte, so that in a group the
 // places of the digits are constants.

@@ -6,7 +6,6 @@ use Rattle.walk.specs.Walk.{layoutOf, recordsSize, badRecords}
 use borrow.Author.Needs.{needs}
 use Rattle.walk.proofs.bad_records.Statement.{statement}
 use Rattle.walk.proofs.bad_records.Tie as tie
-use Rattle.code.proofs.parts.size.Reads as parts-size-reads′
 
 size-requires : tie.Need-size-requires
 size-requires c κs = search needs

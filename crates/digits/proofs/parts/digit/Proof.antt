@@ -1,7 +1,7 @@
 -- `digits::parts::digit` meets its contract. Assumes nothing.
 use denote.Ref.{now}
 use mathlib.Core.Path.{refl, _∙_}
-use native.Mathlib.Nat.{mul-one}
+use native.Mathlib.Nat.{zero-add, mul-one}
 use native.Mathlib.Omega.{arith}
 use Rattle.digits.specs.Digits.{isWidth}
 use Rattle.digits.proofs.DigitLaws.{digit-from}
@@ -45,22 +45,22 @@ code-from-requires-4 c κs = let p = rw (c .enum-told4 .given .1) at (c .before 
 returns : tie.Need-returns
 unfolding isWidth
 returns c = let a = c .before .before .before .before .args in
-    rw (c .before .enum-told .given .1) (c .code-from .ensures .0 ∙ (rw mul-one at (digit-from 1 (now (a .s)) (a .i) refl)))
+    rw (c .before .enum-told .given .1) ((rw zero-add at (c .code-from .ensures .0)) ∙ (rw mul-one at (digit-from 1 (now (a .s)) (a .i) refl)))
 
 returns-2 : tie.Need-returns-2
 unfolding isWidth
 returns-2 c = let a = c .before .before .before .before .args in
-    rw (c .before .enum-told2 .given .1) (c .code-from2 .ensures .0 ∙ digit-from 2 (now (a .s)) (a .i) refl)
+    rw (c .before .enum-told2 .given .1) ((rw zero-add at (c .code-from2 .ensures .0)) ∙ digit-from 2 (now (a .s)) (a .i) refl)
 
 returns-3 : tie.Need-returns-3
 unfolding isWidth
 returns-3 c = let a = c .before .before .before .before .args in
-    rw (c .before .enum-told3 .given .1) (c .code-from3 .ensures .0 ∙ digit-from 4 (now (a .s)) (a .i) refl)
+    rw (c .before .enum-told3 .given .1) ((rw zero-add at (c .code-from3 .ensures .0)) ∙ digit-from 4 (now (a .s)) (a .i) refl)
 
 returns-4 : tie.Need-returns-4
 unfolding isWidth
 returns-4 c = let a = c .before .before .before .before .args in
-    rw (c .before .enum-told4 .given .1) (c .code-from4 .ensures .0 ∙ digit-from 8 (now (a .s)) (a .i) refl)
+    rw (c .before .enum-told4 .given .1) ((rw zero-add at (c .code-from4 .ensures .0)) ∙ digit-from 8 (now (a .s)) (a .i) refl)
 
 pub digit-spec : {M : Type 1} → statement M
 digit-spec =

@@ -1,4 +1,5 @@
 -- `scalar::parts::tests::any_missing` meets its contract. Assumes nothing.
+use native.Mathlib.Omega.{arith}
 use Prim.Native.Nat.{_*_}
 use lib.ListN.{length}
 use mathlib.Core.Path.{_≡_, refl, sym, _∙_}
@@ -14,14 +15,14 @@ long : (c : tie.Start) → let a = c .args in
 long c = let a = c .args in long-vectors (a .n) (a .vector .now) (a .lo .now) (a .hi .now) (c .pre .1)
 
 any-missing-requires : tie.Need-any-missing-requires
-any-missing-requires c κs = let s = c .before .before .before in (le-of-eq (sym (long s .0)), s .pre .0)
+any-missing-requires c κs = let s = c .before .before .before in (le-of-eq (sym (long s .0)), omega arith)
 
 returns : tie.Need-returns
 unfolding anyMissing
 returns c = rw (sym (c .before .any-missing .ensures) ∙ c .if1 .taken) refl
 
 any-missing-requires-2 : tie.Need-any-missing-requires-2
-any-missing-requires-2 c κs = let s = c .before .before .before .before .before in (le-of-eq (sym (long s .1)), s .pre .0)
+any-missing-requires-2 c κs = let s = c .before .before .before .before .before in (le-of-eq (sym (long s .1)), omega arith)
 
 returns-2 : tie.Need-returns-2
 unfolding anyMissing
@@ -30,7 +31,7 @@ returns-2 c =
     rw (sym (e .before .any-missing .ensures) ∙ e .if1 .left, sym (c .before .any-missing2 .ensures) ∙ c .if2 .taken) refl
 
 any-missing-requires-3 : tie.Need-any-missing-requires-3
-any-missing-requires-3 c κs = let s = c .before .before .before .before .before .before .before in (le-of-eq (sym (long s .2)), s .pre .0)
+any-missing-requires-3 c κs = let s = c .before .before .before .before .before .before .before in (le-of-eq (sym (long s .2)), omega arith)
 
 returns-3 : tie.Need-returns-3
 unfolding anyMissing

@@ -2,12 +2,13 @@
 use Prim.Native.Nat.{_+_, _*_, _-_, _≤_}
 use mathlib.Core.Path.{_≡_, sym}
 use native.Mathlib.Omega.{arith}
+use lib.Arith.{digits-lt}
 use lib.Pow.{pow-pos}
 use Rattle.digits.specs.Digits.{levels}
 use Rattle.words.specs.Floats.{addedTo}
 use Rattle.words.proofs.FloatLaws.{added-none, added-more}
 use Rattle.scalar.specs.Table.{termAt}
-use Rattle.scalar.proofs.ScalarLaws.{in-table, byte-within, term-is, bits-fit, rows-fit, levels-le}
+use Rattle.scalar.proofs.ScalarLaws.{byte-within, term-is, bits-fit, rows-fit, levels-le}
 use Rattle.tables.proofs.parts.distance.add_terms.Statement.{statement}
 use Rattle.tables.proofs.parts.distance.add_terms.Tie as tie
 
@@ -46,7 +47,7 @@ within c =
     let p = c .before .before .before .before .before .pre in
     let l = c .before .before .loop in
     let a = c .before .before .before .before .before .args in
-    omega (arith, in-table (a .at + l .j) (a .dims) (levels (a .bits)) (c .code-from .result) (omega arith) (rw (p .1) at (c .code-from .ensures .1)))
+    omega (arith, digits-lt {q = a .at + l .j} {m = a .dims} {r = c .code-from .result} {c = levels (a .bits)} (omega arith) (rw (p .1) at (c .code-from .ensures .1)))
 
 -- the widest row fits
 room : (c : tie.After-code-from Inv-loop μ-loop) → let a = c .before .before .before .before .before .args in

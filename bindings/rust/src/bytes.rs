@@ -1,12 +1,12 @@
 //! Floats and little-endian bytes.
 //!
-//! Records and codes hold their floats as little-endian bytes, at any address. The archive is for x86-64, which is
+//! Records and codes hold their floats as little-endian bytes, at any address. The archive is for x86-64 alone, which is
 //! little-endian itself: floats in memory are those bytes already, so a view costs nothing.
 
 use crate::Refusal;
 use std::{mem, slice};
 
-#[cfg(not(target_endian = "little"))]
+#[cfg(not(target_arch = "x86_64"))]
 compile_error!("liblintelkite.a is built for x86-64");
 
 /// The bytes of some floats, four each, without a copy.

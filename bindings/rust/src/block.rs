@@ -1,6 +1,6 @@
 //! Module 5: 32 single codes as one block, laid out so that all of them are summed at once.
 
-use crate::bytes::{dims_of, number};
+use crate::bytes::{number, saturated};
 use crate::refusal::judge;
 use crate::{code, sys, Refusal};
 
@@ -18,7 +18,7 @@ pub const LANES: usize = 32;
 /// assert_eq!(block::size(65), Ok(784));
 /// ```
 pub fn size(dims: usize) -> Result<usize, Refusal> {
-    let size = number(|out, len| unsafe { sys::lk_block_size(dims_of(dims), out, len) })?;
+    let size = number(|out, len| unsafe { sys::lk_block_size(saturated(dims), out, len) })?;
     Ok(size as usize)
 }
 
@@ -56,7 +56,7 @@ pub fn pack(dims: usize, codes: &[u8]) -> Result<Vec<u8>, Refusal> {
 /// # Ok::<(), lintelkite::Refusal>(())
 /// ```
 pub fn pack_into(dims: usize, codes: &[u8], block: &mut [u8]) -> Result<(), Refusal> {
-    judge(unsafe { sys::lk_block_pack(dims_of(dims), codes.as_ptr(), codes.len(), block.as_mut_ptr(), block.len()) })
+    judge(unsafe { sys::lk_block_pack(saturated(dims), codes.as_ptr(), codes.len(), block.as_mut_ptr(), block.len()) })
 }
 
 /// Reads a lane of a block back as the single code it was. Bits past dims are 0.
@@ -95,6 +95,6 @@ pub fn lane(dims: usize, block: &[u8], lane: usize) -> Result<Vec<u8>, Refusal> 
 /// ```
 pub fn lane_into(dims: usize, block: &[u8], lane: usize, code: &mut [u8]) -> Result<(), Refusal> {
     judge(unsafe {
-        sys::lk_block_lane(dims_of(dims), block.as_ptr(), block.len(), dims_of(lane), code.as_mut_ptr(), code.len())
+        sys::lk_block_lane(saturated(dims), block.as_ptr(), block.len(), saturated(lane), code.as_mut_ptr(), code.len())
     })
 }

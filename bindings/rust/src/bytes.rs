@@ -78,9 +78,9 @@ pub(crate) fn of_numbers_mut(numbers: &mut [u32]) -> &mut [u8] {
     unsafe { slice::from_raw_parts_mut(numbers.as_mut_ptr().cast(), mem::size_of_val(numbers)) }
 }
 
-/// A slice's length as dims. A length that 32 bits cannot hold is above every limit.
-pub(crate) fn dims_of(len: usize) -> u32 {
-    u32::try_from(len).unwrap_or(u32::MAX)
+/// Dims, an index, a lane or a place in 32 bits. One that they cannot hold becomes the greatest, above every limit.
+pub(crate) fn saturated(number: usize) -> u32 {
+    u32::try_from(number).unwrap_or(u32::MAX)
 }
 
 /// A number that a call writes, and what the call says.

@@ -1,6 +1,6 @@
 //! Module 4: the single code of a vector. Four factors, then one bit for each dimension.
 
-use crate::bytes::{dims_of, number, of_floats};
+use crate::bytes::{number, of_floats, saturated};
 use crate::refusal::judge;
 use crate::{sys, Refusal};
 
@@ -67,7 +67,7 @@ impl Factors {
 /// assert_eq!(code::size(4370), Err(Refusal::BadDims));
 /// ```
 pub fn size(dims: usize) -> Result<usize, Refusal> {
-    let size = number(|out, len| unsafe { sys::lk_code_size(dims_of(dims), out, len) })?;
+    let size = number(|out, len| unsafe { sys::lk_code_size(saturated(dims), out, len) })?;
     Ok(size as usize)
 }
 
@@ -104,7 +104,7 @@ pub fn encode(factors: Factors, vector: &[f32]) -> Result<Vec<u8>, Refusal> {
 /// # Ok::<(), lintelkite::Refusal>(())
 /// ```
 pub fn encode_into(factors: Factors, vector: &[f32], code: &mut [u8]) -> Result<(), Refusal> {
-    let dims = dims_of(vector.len());
+    let dims = saturated(vector.len());
     let (factors, vector) = (factors.to_bytes(), of_floats(vector));
     judge(unsafe {
         sys::lk_code_encode(
@@ -133,7 +133,7 @@ pub fn encode_into(factors: Factors, vector: &[f32], code: &mut [u8]) -> Result<
 /// ```
 pub fn bit(dims: usize, code: &[u8], index: usize) -> Result<bool, Refusal> {
     let bit = number(|out, len| unsafe {
-        sys::lk_code_bit(dims_of(dims), code.as_ptr(), code.len(), dims_of(index), out, len)
+        sys::lk_code_bit(saturated(dims), code.as_ptr(), code.len(), saturated(index), out, len)
     })?;
     Ok(bit == 1)
 }

@@ -1,6 +1,6 @@
 //! Module 1: codes of 1, 2, 4 or 8 bits, packed into bytes, lowest bits first.
 
-use crate::bytes::{dims_of, number};
+use crate::bytes::{number, saturated};
 use crate::refusal::judge;
 use crate::{sys, Refusal};
 
@@ -91,7 +91,7 @@ impl Width {
 /// assert_eq!(digits::size(Width::Two, 5), Ok(2));
 /// ```
 pub fn size(width: Width, dims: usize) -> Result<usize, Refusal> {
-    let size = number(|out, len| unsafe { sys::lk_digits_size(dims_of(dims), width.bits(), out, len) })?;
+    let size = number(|out, len| unsafe { sys::lk_digits_size(saturated(dims), width.bits(), out, len) })?;
     Ok(size as usize)
 }
 
@@ -128,7 +128,7 @@ pub fn pack(width: Width, codes: &[u8]) -> Result<Vec<u8>, Refusal> {
 pub fn pack_into(width: Width, codes: &[u8], packed: &mut [u8]) -> Result<(), Refusal> {
     judge(unsafe {
         sys::lk_digits_pack(
-            dims_of(codes.len()),
+            saturated(codes.len()),
             width.bits(),
             codes.as_ptr(),
             codes.len(),
@@ -151,7 +151,7 @@ pub fn pack_into(width: Width, codes: &[u8], packed: &mut [u8]) -> Result<(), Re
 /// ```
 pub fn read(width: Width, dims: usize, packed: &[u8], index: usize) -> Result<u8, Refusal> {
     let code = number(|out, len| unsafe {
-        let (dims, index) = (dims_of(dims), dims_of(index));
+        let (dims, index) = (saturated(dims), saturated(index));
         sys::lk_digits_read(dims, width.bits(), packed.as_ptr(), packed.len(), index, out, len)
     })?;
     Ok(code as u8)

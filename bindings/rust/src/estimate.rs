@@ -1,7 +1,7 @@
 //! Module 7: what a code says of its distance from a query, and a lower bound of it.
 
 use crate::block::LANES;
-use crate::bytes::{dims_of, float, of_floats_mut};
+use crate::bytes::{float, of_floats_mut, saturated};
 use crate::refusal::judge;
 use crate::{sys, Metric, Refusal};
 
@@ -48,7 +48,7 @@ fn ask(call: Call, metric: Metric, query: &Query, record: &[u8], out: *mut u8, o
     unsafe {
         call(
             metric.number(),
-            dims_of(codes.len()),
+            saturated(codes.len()),
             dis_v_2,
             b,
             k,

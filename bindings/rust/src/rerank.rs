@@ -3,7 +3,7 @@
 //! [`Search`] does it all with a function that reads an exact distance. [`next`] and [`supply`] are its two steps, for
 //! whoever keeps the lists elsewhere or waits for a distance to arrive.
 
-use crate::bytes::{dims_of, number, of_floats, of_floats_mut};
+use crate::bytes::{number, of_floats, of_floats_mut, saturated};
 use crate::mark::of_marks_mut;
 use crate::refusal::judge;
 use crate::walk::Candidates;
@@ -113,7 +113,7 @@ pub fn supply(
             distances.len(),
             marks.as_mut_ptr(),
             marks.len(),
-            dims_of(place),
+            saturated(place),
             distance,
             out,
             len,

@@ -1,6 +1,6 @@
 //! Module 2: the scalar quantizer. Each dimension has a range, and a code says where in it a number lies.
 
-use crate::bytes::{dims_of, float, of_floats, of_floats_mut};
+use crate::bytes::{float, of_floats, of_floats_mut, saturated};
 use crate::refusal::judge;
 use crate::{digits, sys, Metric, Refusal, Width};
 
@@ -40,7 +40,7 @@ pub fn encode(width: Width, vector: &[f32], min: &[f32], max: &[f32]) -> Result<
 /// # Ok::<(), lintelkite::Refusal>(())
 /// ```
 pub fn encode_into(width: Width, vector: &[f32], min: &[f32], max: &[f32], code: &mut [u8]) -> Result<(), Refusal> {
-    let dims = dims_of(vector.len());
+    let dims = saturated(vector.len());
     let (vector, min, max) = (of_floats(vector), of_floats(min), of_floats(max));
     judge(unsafe {
         sys::lk_scalar_encode(
@@ -99,7 +99,7 @@ pub fn table_into(
     max: &[f32],
     table: &mut [f32],
 ) -> Result<(), Refusal> {
-    let dims = dims_of(vector.len());
+    let dims = saturated(vector.len());
     let (vector, min, max) = (of_floats(vector), of_floats(min), of_floats(max));
     let table = of_floats_mut(table);
     judge(unsafe {
@@ -139,7 +139,7 @@ pub fn distance(metric: Metric, width: Width, dims: usize, table: &[f32], code: 
     float(|out, len| unsafe {
         sys::lk_scalar_distance(
             metric.number(),
-            dims_of(dims),
+            saturated(dims),
             width.bits(),
             table.as_ptr(),
             table.len(),

@@ -1,7 +1,7 @@
 //! Module 6: sums of query codes. A query has one code of at most 15 for each dimension.
 
 use crate::block::LANES;
-use crate::bytes::{dims_of, number};
+use crate::bytes::{number, saturated};
 use crate::refusal::judge;
 use crate::{sys, Refusal};
 
@@ -16,7 +16,7 @@ use crate::{sys, Refusal};
 /// assert_eq!(sums::query_sum(&[3, 0, 15, 8, 1]), Ok(27));
 /// ```
 pub fn query_sum(query: &[u8]) -> Result<u32, Refusal> {
-    number(|out, len| unsafe { sys::lk_query_sum(dims_of(query.len()), query.as_ptr(), query.len(), out, len) })
+    number(|out, len| unsafe { sys::lk_query_sum(saturated(query.len()), query.as_ptr(), query.len(), out, len) })
 }
 
 /// The sum of the query codes at the bits that are set in a single code.
@@ -33,7 +33,7 @@ pub fn query_sum(query: &[u8]) -> Result<u32, Refusal> {
 /// ```
 pub fn code_sum(query: &[u8], code: &[u8]) -> Result<u32, Refusal> {
     number(|out, len| unsafe {
-        sys::lk_code_sum(dims_of(query.len()), query.as_ptr(), query.len(), code.as_ptr(), code.len(), out, len)
+        sys::lk_code_sum(saturated(query.len()), query.as_ptr(), query.len(), code.as_ptr(), code.len(), out, len)
     })
 }
 
@@ -55,7 +55,7 @@ pub fn block_sums(query: &[u8], block: &[u8]) -> Result<[u32; LANES], Refusal> {
     let mut out = [0; 4 * LANES];
     judge(unsafe {
         sys::lk_block_sums(
-            dims_of(query.len()),
+            saturated(query.len()),
             query.as_ptr(),
             query.len(),
             block.as_ptr(),

@@ -1,6 +1,6 @@
 //! Module 8: the lower bounds of a range of records.
 
-use crate::bytes::{dims_of, number, of_floats_mut, of_numbers_mut};
+use crate::bytes::{number, of_floats_mut, of_numbers_mut, saturated};
 use crate::mark::of_marks_mut;
 use crate::{sys, Mark, Metric, Query, Refusal};
 use std::ops::Range;
@@ -142,7 +142,7 @@ pub fn walk_into(
         sys::lk_walk(
             metric.number(),
             records.layout.number(),
-            dims_of(codes.len()),
+            saturated(codes.len()),
             dis_v_2,
             b,
             k,

@@ -1,7 +1,7 @@
 //! Module 7: what a code says of its distance from a query, and a lower bound of it.
 
 use crate::block::LANES;
-use crate::bytes::{float, of_floats_mut, saturated};
+use crate::bytes::{of_floats_mut, saturated};
 use crate::refusal::judge;
 use crate::{sys, Metric, Refusal};
 
@@ -43,9 +43,12 @@ type Call = unsafe extern "C" fn(
     out_len: usize,
 ) -> u32;
 
-fn ask(call: Call, metric: Metric, query: &Query, record: &[u8], out: *mut u8, out_len: usize) -> u32 {
+/// The estimates that a call writes: one of a single code, 32 of a block. The call is one of the four.
+fn ask<const N: usize>(call: Call, metric: Metric, query: &Query, record: &[u8]) -> Result<[f32; N], Refusal> {
     let Query { dis_v_2, b, k, codes } = *query;
-    unsafe {
+    let mut estimates = [0.0; N];
+    let out = of_floats_mut(&mut estimates);
+    judge(unsafe {
         call(
             metric.number(),
             saturated(codes.len()),
@@ -56,16 +59,10 @@ fn ask(call: Call, metric: Metric, query: &Query, record: &[u8], out: *mut u8, o
             codes.len(),
             record.as_ptr(),
             record.len(),
-            out,
-            out_len,
+            out.as_mut_ptr(),
+            out.len(),
         )
-    }
-}
-
-fn lanes(call: Call, metric: Metric, query: &Query, block: &[u8]) -> Result<[f32; LANES], Refusal> {
-    let mut estimates = [0.0; LANES];
-    let out = of_floats_mut(&mut estimates);
-    judge(ask(call, metric, query, block, out.as_mut_ptr(), out.len()))?;
+    })?;
     Ok(estimates)
 }
 
@@ -86,7 +83,7 @@ fn lanes(call: Call, metric: Metric, query: &Query, block: &[u8]) -> Result<[f32
 /// # Ok::<(), lintelkite::Refusal>(())
 /// ```
 pub fn code_rough(metric: Metric, query: &Query, code: &[u8]) -> Result<f32, Refusal> {
-    float(|out, len| ask(sys::lk_code_rough, metric, query, code, out, len))
+    ask(sys::lk_code_rough, metric, query, code).map(|[estimate]| estimate)
 }
 
 /// The lower bound of a single code: the rough estimate less 1.9 times the error.
@@ -104,7 +101,7 @@ pub fn code_rough(metric: Metric, query: &Query, code: &[u8]) -> Result<f32, Ref
 /// # Ok::<(), lintelkite::Refusal>(())
 /// ```
 pub fn code_lower_bound(metric: Metric, query: &Query, code: &[u8]) -> Result<f32, Refusal> {
-    float(|out, len| ask(sys::lk_code_lower_bound, metric, query, code, out, len))
+    ask(sys::lk_code_lower_bound, metric, query, code).map(|[bound]| bound)
 }
 
 /// The rough estimates of a block, lane 0 first. Each is that of its lane's single code, or a NaN where the single call
@@ -124,7 +121,7 @@ pub fn code_lower_bound(metric: Metric, query: &Query, code: &[u8]) -> Result<f3
 /// # Ok::<(), lintelkite::Refusal>(())
 /// ```
 pub fn block_rough(metric: Metric, query: &Query, block: &[u8]) -> Result<[f32; LANES], Refusal> {
-    lanes(sys::lk_block_rough, metric, query, block)
+    ask(sys::lk_block_rough, metric, query, block)
 }
 
 /// The lower bounds of a block, lane 0 first; a NaN as [`block_rough`] has it.
@@ -143,5 +140,5 @@ pub fn block_rough(metric: Metric, query: &Query, block: &[u8]) -> Result<[f32; 
 /// # Ok::<(), lintelkite::Refusal>(())
 /// ```
 pub fn block_lower_bounds(metric: Metric, query: &Query, block: &[u8]) -> Result<[f32; LANES], Refusal> {
-    lanes(sys::lk_block_lower_bounds, metric, query, block)
+    ask(sys::lk_block_lower_bounds, metric, query, block)
 }

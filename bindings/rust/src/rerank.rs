@@ -28,6 +28,23 @@ pub enum Answer {
     },
 }
 
+impl Answer {
+    /// The number that the C function writes for it.
+    ///
+    /// ```
+    /// use lintelkite::Answer;
+    ///
+    /// assert_eq!((Answer::Done.number(), Answer::Ask { place: 7 }.number()), (0, 1));
+    /// ```
+    pub const fn number(self) -> u32 {
+        match self {
+            Answer::Done => 0,
+            Answer::Ask { .. } => 1,
+            Answer::Give { .. } => 2,
+        }
+    }
+}
+
 /// An answer, and how far the search has come.
 #[derive(Clone, Copy, Debug, PartialEq)]
 pub struct Step {
@@ -70,14 +87,12 @@ pub fn next(estimates: &[f32], distances: &[f32], marks: &mut [Mark]) -> Result<
         )
     })?;
     let at = |i: usize| u32::from_le_bytes([out[i], out[i + 1], out[i + 2], out[i + 3]]);
-    let place = at(4) as usize;
-    let answer = match at(0) {
-        0 => Answer::Done,
-        1 => Answer::Ask { place },
-        2 => Answer::Give { place, distance: f32::from_bits(at(8)) },
-        n => panic!("the archive is not of this version: answer {n}"),
-    };
-    Ok(Step { answer, asked: at(12) as usize })
+    let (number, place, distance) = (at(0), at(4) as usize, f32::from_bits(at(8)));
+    let answers = [Answer::Done, Answer::Ask { place }, Answer::Give { place, distance }];
+    match answers.into_iter().find(|answer| answer.number() == number) {
+        Some(answer) => Ok(Step { answer, asked: at(12) as usize }),
+        None => panic!("the archive is not of this version: answer {number}"),
+    }
 }
 
 /// Supplies the exact distance that was asked for, and returns how many candidates no longer wait.

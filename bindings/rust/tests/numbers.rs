@@ -1,6 +1,6 @@
 //! The numbers of this crate are those of include/lintelkite.h.
 
-use lintelkite::{Layout, Mark, Metric, Refusal};
+use lintelkite::{Answer, Layout, Mark, Metric, Refusal};
 
 fn stands(entry: String) {
     let header = include_str!("../../../include/lintelkite.h");
@@ -29,4 +29,12 @@ fn layouts_and_marks() {
     stands(format!("LK_WAITING = {}", Mark::Waiting.number()));
     stands(format!("LK_ASKED = {}", Mark::Asked.number()));
     stands(format!("LK_GIVEN = {}", Mark::Given.number()));
+}
+
+/// `rerank::next` tells its answers apart by these.
+#[test]
+fn answers() {
+    stands(format!("LK_DONE = {}", Answer::Done.number()));
+    stands(format!("LK_ASK = {}", Answer::Ask { place: 0 }.number()));
+    stands(format!("LK_GIVE = {}", Answer::Give { place: 0, distance: 0.0 }.number()));
 }

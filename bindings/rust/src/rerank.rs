@@ -138,18 +138,33 @@ pub fn supply(
 }
 
 /// A candidate that a search hands out.
+///
+/// A lower bound of the method holds for most vectors, not for all. Where a distance is below its bound, hits may be out
+/// of order, and a caller to whom that matters compares the two:
+///
+/// ```
+/// use lintelkite::{Candidates, Search};
+///
+/// // Candidate 20 is nearer than its bound says, and comes late.
+/// let candidates = Candidates { ids: vec![10, 20], bounds: vec![1.0, 4.0] };
+/// let hits = Search::new(candidates)?.run(|id| if id == 10 { 3.0 } else { 2.0 })?;
+/// assert_eq!(hits.iter().map(|hit| (hit.id, hit.distance < hit.bound)).collect::<Vec<_>>(), [(10, false), (20, true)]);
+/// # Ok::<(), lintelkite::Refusal>(())
+/// ```
 #[derive(Clone, Copy, Debug, PartialEq)]
 pub struct Hit {
     /// The candidate's id.
     pub id: u32,
+    /// The lower bound of its distance, as the candidates had it.
+    pub bound: f32,
     /// Its exact distance.
     pub distance: f32,
 }
 
 /// A search among candidates: hands them out by exact distance, and reads no more exact distances than it needs.
 ///
-/// Where each exact distance is at least its estimate, hits come nearest first, and when one is handed out at distance
-/// d, the candidates whose estimates lie above d have not been read.
+/// Where no exact distance is below its bound, hits come nearest first, and when one is handed out at distance d, the
+/// candidates whose bounds lie above d have not been read. In any case each candidate is handed out once.
 ///
 /// ```
 /// use lintelkite::{Candidates, Search};
@@ -193,11 +208,14 @@ impl Search {
         Ok(search)
     }
 
-    /// The next hit, or nothing when all have been handed out. `exact` reads the exact distance of an id, and is called
-    /// once for each id that is asked for.
+    /// The next hit, or nothing when all have been handed out. `exact` reads the exact distance of an id.
+    ///
+    /// It is called for a candidate until it returns a distance, and not again. An id that stands at several places is
+    /// several candidates.
     ///
     /// # Errors
-    /// [`Refusal::Missing`] where `exact` returns a NaN. The search is as it was before that distance, and goes on.
+    /// [`Refusal::Missing`] where `exact` returns a NaN. The search is as it was before that distance: the next call asks
+    /// for it again.
     ///
     /// ```
     /// use lintelkite::{Candidates, Search};
@@ -211,7 +229,7 @@ impl Search {
         self.try_next_hit(|id| Ok(exact(id)))
     }
 
-    /// As [`next_hit`](Search::next_hit), where reading can fail. After an error the search goes on where it was.
+    /// As [`next_hit`](Search::next_hit), where reading can fail. The call after an error asks for the same distance again.
     ///
     /// # Errors
     /// What `exact` returns, and as `next_hit`.
@@ -232,10 +250,11 @@ impl Search {
         mut exact: impl FnMut(u32) -> Result<f32, E>,
     ) -> Result<Option<Hit>, E> {
         let Candidates { ids, bounds } = &self.candidates;
+        let hit = |place: usize, distance| Hit { id: ids[place], bound: bounds[place], distance };
         loop {
             match next(bounds, &self.distances, &mut self.marks)?.answer {
                 Answer::Done => return Ok(None),
-                Answer::Give { place, distance } => return Ok(Some(Hit { id: ids[place], distance })),
+                Answer::Give { place, distance } => return Ok(Some(hit(place, distance))),
                 Answer::Ask { place } => {
                     let distance = exact(ids[place])?;
                     self.asked = supply(bounds, &mut self.distances, &mut self.marks, place, distance)?;

@@ -48,6 +48,8 @@ fn every_candidate_once_and_in_order() {
         let mut hits: Vec<Hit> = Vec::new();
         while let Some(hit) = search.next_hit(by_id).unwrap() {
             assert_eq!(hit.distance, by_id(hit.id));
+            let place = (0..ids.len()).find(|i| (ids[*i], bounds[*i]) == (hit.id, hit.bound));
+            assert!(place.is_some(), "{n} candidates, {hit:?}");
             let below = bounds.iter().filter(|bound| **bound < hit.distance).count();
             let not_above = bounds.iter().filter(|bound| **bound <= hit.distance).count();
             assert!(below <= search.asked() && search.asked() <= not_above, "{n} candidates, {hit:?}");
@@ -63,6 +65,24 @@ fn every_candidate_once_and_in_order() {
     }
 }
 
+/// Once for each candidate, repeated ids too, and again after a NaN.
+#[test]
+fn how_often_a_distance_is_read() {
+    let mut search = Search::new(Candidates { ids: vec![7, 7, 8], bounds: vec![0.0, 1.0, 1.0] }).unwrap();
+    let mut read = Vec::new();
+    let failed = search.next_hit(|id| {
+        read.push(id);
+        f32::NAN
+    });
+    assert_eq!(failed, Err(Refusal::Missing));
+    let hits = search.run(|id| {
+        read.push(id);
+        5.0
+    });
+    assert_eq!(hits.unwrap().len(), 3);
+    assert_eq!(read, [7, 7, 7, 8]);
+}
+
 #[test]
 fn refusals() {
     let candidates = |places| Candidates { ids: vec![0; places], bounds: vec![0.0; places] };
@@ -74,7 +94,7 @@ fn refusals() {
     let mut search = Search::new(candidates(1)).unwrap();
     assert_eq!(search.next_hit(|_| f32::NAN), Err(Refusal::Missing));
     assert_eq!(search.asked(), 0);
-    assert_eq!(search.next_hit(|_| 3.0), Ok(Some(Hit { id: 0, distance: 3.0 })));
+    assert_eq!(search.next_hit(|_| 3.0), Ok(Some(Hit { id: 0, bound: 0.0, distance: 3.0 })));
 
     let (mut distances, mut marks) = ([f32::NAN, 5.0], [Mark::Waiting, Mark::Given]);
     assert_eq!(supply(&[1.0, 1.0], &mut distances, &mut marks, 1, 2.0), Err(Refusal::NotAsked));

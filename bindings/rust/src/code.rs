@@ -6,6 +6,8 @@ use crate::{sys, Refusal};
 
 /// The four numbers that stand in front of a code's bits. They are copied bit for bit, whatever they are.
 ///
+/// The crate's [first page](crate#a-search-from-end-to-end) shows how they are made of a vector.
+///
 /// ```
 /// use lintelkite::{code, Factors};
 ///

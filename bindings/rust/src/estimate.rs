@@ -7,6 +7,8 @@ use crate::{sys, Metric, Refusal};
 
 /// A query: a vector whose numbers are about `b + k * code`, and the square of its length.
 ///
+/// The crate's [first page](crate#a-search-from-end-to-end) shows how it is made of a vector.
+///
 /// ```
 /// use lintelkite::{estimate, code, Factors, Metric, Query};
 ///

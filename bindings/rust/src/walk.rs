@@ -99,6 +99,35 @@ pub struct Candidates {
 /// assert_eq!(found.bounds, [5.0, 5.0]);
 /// # Ok::<(), lintelkite::Refusal>(())
 /// ```
+///
+/// More records than [`MOST_PLACES`] are walked in windows. The nearest of all is the nearest of one of them; for the ten
+/// nearest of all, each window gives its ten.
+///
+/// ```
+/// use lintelkite::walk::{walk, MOST_PLACES};
+/// use lintelkite::{code, Factors, Hit, Layout, Metric, Query, Records, Search};
+///
+/// // Record i is the vector [i - 2,500], and the query is [1,700]. In one dimension the estimates are exact.
+/// let (n, x_of) = (5_000, |id: u32| id as f32 - 2_500.0);
+/// let mut codes = Vec::new();
+/// for x in (0..n).map(x_of) {
+///     let factors = Factors { dis_u_2: x * x, factor_ppc: -2.0 * x, factor_ip: -2.0 * x.abs(), factor_err: 0.0 };
+///     codes.extend(code::encode(factors, &[x])?);
+/// }
+/// let records = Records { layout: Layout::Single, bytes: &codes, n };
+/// let query = Query { dis_v_2: 1_700.0 * 1_700.0, b: 1_700.0, k: 0.0, codes: &[0] };
+/// let exact = |id| (x_of(id) - 1_700.0).powi(2);
+///
+/// let mut hits: Vec<Hit> = Vec::new();
+/// for start in (0..n).step_by(MOST_PLACES) {
+///     let end = n.min(start + MOST_PLACES as u32);
+///     let mut search = Search::new(walk(Metric::L2, &query, &records, start..end)?)?;
+///     hits.extend(search.next_hit(exact)?);
+/// }
+/// hits.sort_by(|x, y| x.distance.total_cmp(&y.distance));
+/// assert_eq!(hits[0], Hit { id: 4_200, bound: 0.0, distance: 0.0 });
+/// # Ok::<(), lintelkite::Refusal>(())
+/// ```
 pub fn walk(metric: Metric, query: &Query, records: &Records, range: Range<u32>) -> Result<Candidates, Refusal> {
     let places = range.len().min(MOST_PLACES);
     let (mut ids, mut bounds) = (vec![0; places], vec![0.0; places]);

@@ -16,6 +16,7 @@ compile_error!("liblintelkite.a is built for x86-64");
 ///
 /// assert_eq!(bytes::of_floats(&[1.0, -2.0]), [0, 0, 0x80, 0x3F, 0, 0, 0, 0xC0]);
 /// ```
+#[must_use]
 pub fn of_floats(floats: &[f32]) -> &[u8] {
     // Every byte of a float is a byte, and the length is the same in bytes.
     unsafe { slice::from_raw_parts(floats.as_ptr().cast(), mem::size_of_val(floats)) }

@@ -37,6 +37,7 @@ impl Factors {
     /// let factors = Factors { factor_ppc: 1.0, ..Factors::default() };
     /// assert_eq!(factors.to_bytes()[4..8], [0, 0, 0x80, 0x3F]);
     /// ```
+    #[must_use]
     pub fn to_bytes(self) -> [u8; 16] {
         let mut bytes = [0; 16];
         bytes.copy_from_slice(of_floats(&[self.dis_u_2, self.factor_ppc, self.factor_ip, self.factor_err]));
@@ -51,6 +52,7 @@ impl Factors {
     /// assert_eq!(Factors::of_code(&[0; 24]), Some(Factors::default()));
     /// assert_eq!(Factors::of_code(&[0; 15]), None);
     /// ```
+    #[must_use]
     pub fn of_code(code: &[u8]) -> Option<Factors> {
         let at = |i: usize| Some(f32::from_le_bytes(code.get(4 * i..4 * i + 4)?.try_into().ok()?));
         Some(Factors { dis_u_2: at(0)?, factor_ppc: at(1)?, factor_ip: at(2)?, factor_err: at(3)? })

@@ -48,6 +48,7 @@ impl Width {
     /// ```
     /// assert_eq!(lintelkite::Width::Two.bits(), 2);
     /// ```
+    #[must_use]
     pub const fn bits(self) -> u32 {
         self as u32
     }
@@ -57,6 +58,7 @@ impl Width {
     /// ```
     /// assert_eq!(lintelkite::Width::Two.levels(), 4);
     /// ```
+    #[must_use]
     pub const fn levels(self) -> usize {
         1 << self.bits()
     }
@@ -66,6 +68,7 @@ impl Width {
     /// ```
     /// assert_eq!(lintelkite::Width::Two.top(), 3);
     /// ```
+    #[must_use]
     pub const fn top(self) -> u8 {
         (self.levels() - 1) as u8
     }
@@ -75,6 +78,7 @@ impl Width {
     /// ```
     /// assert_eq!(lintelkite::Width::Two.codes_per_byte(), 4);
     /// ```
+    #[must_use]
     pub const fn codes_per_byte(self) -> usize {
         8 / self.bits() as usize
     }

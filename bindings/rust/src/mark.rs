@@ -29,6 +29,7 @@ impl Mark {
     /// ```
     /// assert_eq!(lintelkite::Mark::Given.number(), 2);
     /// ```
+    #[must_use]
     pub const fn number(self) -> u8 {
         self as u8
     }

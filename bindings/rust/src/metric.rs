@@ -24,6 +24,7 @@ impl Metric {
     /// ```
     /// assert_eq!(lintelkite::Metric::Dot.number(), 2);
     /// ```
+    #[must_use]
     pub const fn number(self) -> u32 {
         self as u32
     }

@@ -59,6 +59,7 @@ impl Refusal {
     /// ```
     /// assert_eq!(lintelkite::Refusal::Missing.number(), 4);
     /// ```
+    #[must_use]
     pub const fn number(self) -> u32 {
         self as u32
     }
@@ -83,6 +84,7 @@ impl Refusal {
     /// ```
     /// assert_eq!(lintelkite::Refusal::OutOfRange.name(), "OUT_OF_RANGE");
     /// ```
+    #[must_use]
     pub const fn name(self) -> &'static str {
         match self {
             Refusal::BadDims => "BAD_DIMS",

@@ -36,6 +36,7 @@ impl Answer {
     ///
     /// assert_eq!((Answer::Done.number(), Answer::Ask { place: 7 }.number()), (0, 1));
     /// ```
+    #[must_use]
     pub const fn number(self) -> u32 {
         match self {
             Answer::Done => 0,
@@ -294,6 +295,7 @@ impl Search {
     /// assert_eq!(search.asked(), 1);
     /// # Ok::<(), lintelkite::Refusal>(())
     /// ```
+    #[must_use]
     pub fn asked(&self) -> usize {
         self.asked
     }

@@ -30,6 +30,7 @@ impl Layout {
     /// ```
     /// assert_eq!(lintelkite::Layout::Blocks.number(), 2);
     /// ```
+    #[must_use]
     pub const fn number(self) -> u32 {
         self as u32
     }

@@ -1,13 +1,12 @@
 //! Each function refuses with the number that its input earns, and leaves what it was lent as it was.
 
-use lintelkite::Refusal::{self, *};
+mod common;
+
+use common::refused;
+use lintelkite::Refusal::*;
 use lintelkite::{digits, Width};
 
 const HUGE: usize = 1 << 40;
-
-fn refused<T: std::fmt::Debug>(said: Result<T, Refusal>, why: Refusal) {
-    assert_eq!(said.unwrap_err(), why);
-}
 
 #[test]
 fn digits() {

@@ -1,14 +1,13 @@
 //! Each function refuses with the number that its input earns, and leaves what it was lent as it was.
 
+mod common;
+
+use common::refused;
 use lintelkite::estimate::{block_lower_bounds, block_rough, code_lower_bound, code_rough};
-use lintelkite::Refusal::{self, *};
+use lintelkite::Refusal::*;
 use lintelkite::{block, code, sums, Factors, Metric, Query};
 
 const HUGE: usize = 1 << 40;
-
-fn refused<T: std::fmt::Debug>(said: Result<T, Refusal>, why: Refusal) {
-    assert_eq!(said.unwrap_err(), why);
-}
 
 #[test]
 fn codes() {

@@ -1,11 +1,10 @@
 //! Each function refuses with the number that its input earns, and leaves what it was lent as it was.
 
-use lintelkite::root;
-use lintelkite::Refusal::{self, *};
+mod common;
 
-fn refused<T: std::fmt::Debug>(said: Result<T, Refusal>, why: Refusal) {
-    assert_eq!(said.unwrap_err(), why);
-}
+use common::refused;
+use lintelkite::root;
+use lintelkite::Refusal::*;
 
 #[test]
 fn root_of_what_has_none() {

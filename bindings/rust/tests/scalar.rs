@@ -1,11 +1,10 @@
 //! Each function refuses with the number that its input earns, and leaves what it was lent as it was.
 
-use lintelkite::Refusal::{self, *};
-use lintelkite::{scalar, Metric, Width};
+mod common;
 
-fn refused<T: std::fmt::Debug>(said: Result<T, Refusal>, why: Refusal) {
-    assert_eq!(said.unwrap_err(), why);
-}
+use common::refused;
+use lintelkite::Refusal::*;
+use lintelkite::{scalar, Metric, Width};
 
 #[test]
 fn encode_and_table() {

@@ -1,12 +1,11 @@
 //! Each function refuses with the number that its input earns, and leaves what it was lent as it was.
 
-use lintelkite::walk::{walk, walk_into, Candidates};
-use lintelkite::Refusal::{self, *};
-use lintelkite::{Layout, Mark, Metric, Query, Records};
+mod common;
 
-fn refused<T: std::fmt::Debug>(said: Result<T, Refusal>, why: Refusal) {
-    assert_eq!(said.unwrap_err(), why);
-}
+use common::refused;
+use lintelkite::walk::{walk, walk_into, Candidates};
+use lintelkite::Refusal::*;
+use lintelkite::{Layout, Mark, Metric, Query, Records};
 
 #[test]
 fn ranges() {

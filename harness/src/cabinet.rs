@@ -91,7 +91,7 @@ fn block(dims: usize, records: &[Record]) -> Vec<u8> {
 /// A cabinet of n random records. Every distance is at its lower bound or above it. With `ties` the distances are rounded
 /// up to whole numbers, so that many are equal.
 pub fn random(rng: &mut Rng, metric: u32, dims: usize, n: usize, ties: bool) -> Cabinet {
-    let mild = |rng: &mut Rng| (rng.next() >> 40) as f32 / (1 << 23) as f32 - 1.0;
+    let mild = |rng: &mut Rng| (rng.word() >> 40) as f32 / (1 << 23) as f32 - 1.0;
     let query = (0..dims).map(|_| rng.below(16) as u8).collect();
     let records = (0..n)
         .map(|_| Record {

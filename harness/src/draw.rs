@@ -85,21 +85,21 @@ impl Mood {
 impl Rng {
     /// A float of an ordinary size.
     pub fn mild(&mut self) -> f32 {
-        (self.next() >> 40) as f32 / (1 << 23) as f32 - 1.0
+        (self.word() >> 40) as f32 / (1 << 23) as f32 - 1.0
     }
 
     pub fn finite(&mut self) -> f32 {
         match self.below(10) {
             0 => self.pick(&FINITE),
             1 => {
-                let bits = self.next() as u32;
+                let bits = self.word() as u32;
                 if bits & 0x7F80_0000 == 0x7F80_0000 {
                     f32::from_bits(bits & 0xBFFF_FFFF)
                 } else {
                     f32::from_bits(bits)
                 }
             }
-            2 => f32::from_bits(self.next() as u32 & 0x807F_FFFF),
+            2 => f32::from_bits(self.word() as u32 & 0x807F_FFFF),
             3 => self.below(33) as f32 - 16.0,
             4 => (self.below(65) as f32 - 32.0) / 2.0,
             5 => self.mild() * 1e18,
@@ -110,7 +110,7 @@ impl Rng {
     /// Any float at all.
     pub fn float(&mut self) -> f32 {
         match self.below(8) {
-            0 => f32::from_bits(self.next() as u32),
+            0 => f32::from_bits(self.word() as u32),
             1 => self.pick(&NOT_FINITE),
             _ => self.finite(),
         }
@@ -131,7 +131,7 @@ impl Rng {
     /// Query codes: 0 to 15.
     pub fn query(&mut self, n: usize) -> Vec<u8> {
         let only = self.pick(&[None, None, None, None, None, Some(15), Some(0)]);
-        (0..n).map(|_| only.unwrap_or((self.next() % 16) as u8)).collect()
+        (0..n).map(|_| only.unwrap_or((self.word() % 16) as u8)).collect()
     }
 
     /// Dims of a code or a block, mostly few.

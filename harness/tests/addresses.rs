@@ -9,6 +9,7 @@ use harness::rng::Rng;
 use harness::rust::Aligned;
 use harness::{block, code, digits, estimate, rerank, scalar, sums, walk};
 use std::hint::black_box;
+use std::slice::from_ref;
 
 const DIMS: u32 = 70;
 const N: usize = DIMS as usize;
@@ -41,7 +42,7 @@ fn digits_and_scalar_codes() {
         let ones = vec![1; N];
         at_every_offset("lk_digits_pack", &[ones], size, |read, out| digits::pack(DIMS, bits, read[0], out));
         let packed = rng.bytes(size);
-        at_every_offset("lk_digits_read", &[packed.clone()], 4, |read, out| {
+        at_every_offset("lk_digits_read", from_ref(&packed), 4, |read, out| {
             digits::read(DIMS, bits, read[0], DIMS - 1, out)
         });
         let columns = [of_floats(&rng.mild_floats(N)), low.clone(), high.clone()];
@@ -81,10 +82,10 @@ fn codes_blocks_sums_and_estimates() {
     at_every_offset("lk_code_encode", &[vec![7; 16], vector], size, |read, out| {
         code::encode(DIMS, read[0], read[1], out)
     });
-    at_every_offset("lk_code_bit", &[single.clone()], 4, |read, out| code::bit(DIMS, read[0], 69, out));
+    at_every_offset("lk_code_bit", from_ref(&single), 4, |read, out| code::bit(DIMS, read[0], 69, out));
     at_every_offset("lk_block_pack", &[all], block_size, |read, out| block::pack(DIMS, read[0], out));
-    at_every_offset("lk_block_lane", &[packed.clone()], size, |read, out| block::lane(DIMS, read[0], 31, out));
-    at_every_offset("lk_query_sum", &[query_codes.clone()], 4, |read, out| sums::query(DIMS, read[0], out));
+    at_every_offset("lk_block_lane", from_ref(&packed), size, |read, out| block::lane(DIMS, read[0], 31, out));
+    at_every_offset("lk_query_sum", from_ref(&query_codes), 4, |read, out| sums::query(DIMS, read[0], out));
     let (of_code, of_block) = ([query_codes.clone(), single], [query_codes, packed]);
     at_every_offset("lk_code_sum", &of_code, 4, |read, out| sums::code(DIMS, read[0], read[1], out));
     at_every_offset("lk_block_sums", &of_block, 128, |read, out| sums::block(DIMS, read[0], read[1], out));

@@ -55,7 +55,7 @@ fn digit(dims: u32, bits: u32, packed: &[u8], index: u32) -> u32 {
 }
 
 fn random_codes(rng: &mut Rng, bits: u32, n: u32) -> Vec<u8> {
-    (0..n).map(|_| (rng.next() % (1 << bits)) as u8).collect()
+    (0..n).map(|_| (rng.word() % (1 << bits)) as u8).collect()
 }
 
 // ---- what is accepted
@@ -74,7 +74,7 @@ fn the_papers_rows() {
 fn the_size_at_every_dims() {
     for bits in WIDTHS {
         for dims in 1..=65_535u32 {
-            assert_eq!(size_of(dims, bits), (dims as usize * bits as usize + 7) / 8, "{dims} dims, width {bits}");
+            assert_eq!(size_of(dims, bits), (dims as usize * bits as usize).div_ceil(8), "{dims} dims, width {bits}");
         }
     }
 }
@@ -244,13 +244,13 @@ fn conditions_in_every_mixture() {
         codes.resize(damage(&mut rng, n), 0);
         if rng.once_in(6) && !codes.is_empty() {
             let place = rng.below(codes.len());
-            codes[place] = rng.next() as u8;
+            codes[place] = rng.word() as u8;
         }
         sizes.insert(try_size(dims, bits, damage(&mut rng, 4)));
         packs.insert(try_pack(dims, bits, &codes, damage(&mut rng, size)));
         let len = damage(&mut rng, size);
         let packed = rng.bytes(len);
-        let index = if rng.once_in(4) { rng.next() as u32 } else { rng.below(n + 2) as u32 };
+        let index = if rng.once_in(4) { rng.word() as u32 } else { rng.below(n + 2) as u32 };
         reads.insert(try_read(dims, bits, &packed, index, damage(&mut rng, 4)));
     }
     assert_eq!(sizes, BTreeSet::from([ACCEPTED, BAD_DIMS, BAD_WIDTH, BAD_LENGTH]));

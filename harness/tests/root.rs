@@ -36,7 +36,7 @@ fn the_papers_rows() {
 fn the_plain_reading_is_the_hardwares_root() {
     let mut rng = Rng::new(1);
     for _ in 0..200_000 {
-        let x = f32::from_bits(rng.next() as u32 & 0x7FFF_FFFF);
+        let x = f32::from_bits(rng.word() as u32 & 0x7FFF_FFFF);
         if !x.is_nan() {
             assert_eq!(paper::root::root(x).to_bits(), x.sqrt().to_bits(), "{:#010X}", x.to_bits());
         }
@@ -79,7 +79,7 @@ fn around_squares_and_middles() {
 fn any_bits() {
     let mut rng = Rng::new(3);
     for _ in 0..2_000_000 {
-        let x = f32::from_bits(rng.next() as u32);
+        let x = f32::from_bits(rng.word() as u32);
         if x >= 0.0 {
             like_the_hardware(x.to_bits());
         } else if x < 0.0 || x.is_nan() {

@@ -133,7 +133,7 @@ fn boundaries_in_every_place() {
         assert_eq!(code, rust::scalar_encode(dims, bits, &vector, &min, &max), "width {bits}");
         assert_eq!(paper::scalar::encode(dims, bits, &v, &a, &b, &code.clone()), (0, code));
         for metric in [1, 2] {
-            let mut table = vec![0xEE; 4 * (dims as usize) << bits];
+            let mut table = vec![0xEE; (4 * dims as usize) << bits];
             assert_eq!(scalar::table(metric, dims, bits, &v, &a, &b, &mut table), 0);
             let theirs = rust::scalar_table(metric, dims, bits, &vector, &min, &max);
             for (i, (ours, theirs)) in words(&table).into_iter().zip(theirs).enumerate() {

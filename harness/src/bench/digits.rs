@@ -10,7 +10,7 @@ pub fn run(clock: &Clock) {
     let mut rng = Rng::new(1);
     for bits in [1, 2, 4, 8] {
         for dims in DIMS {
-            let codes: Vec<u8> = (0..dims).map(|_| (rng.next() % (1 << bits)) as u8).collect();
+            let codes: Vec<u8> = (0..dims).map(|_| (rng.word() % (1 << bits)) as u8).collect();
             let size = (dims * bits).div_ceil(8) as usize;
             let mut packed = vec![0; size];
             let theirs = || -> Vec<u8> {

@@ -11,7 +11,7 @@ pub fn run(clock: &Clock) {
     heading("lower bounds: a whole call");
     let mut rng = Rng::new(1);
     for dims in DIMS {
-        let codes: Vec<u8> = (0..dims).map(|_| (rng.next() % 16) as u8).collect();
+        let codes: Vec<u8> = (0..dims).map(|_| (rng.word() % 16) as u8).collect();
         let query = Query { metric: 1, dims, dis_v_2: 2.0, b: 0.5, k: 0.25, codes: &codes };
         let mut single = bytes::of_floats(&[1.0, 0.5, -0.5, 0.25]);
         single.extend(rng.bytes(code::size_of(dims) - 16));

@@ -10,7 +10,7 @@ pub fn run(clock: &Clock) {
     heading("sums: a whole call, planes or table made each time");
     let mut rng = Rng::new(1);
     for dims in DIMS {
-        let query: Vec<u8> = (0..dims).map(|_| (rng.next() % 16) as u8).collect();
+        let query: Vec<u8> = (0..dims).map(|_| (rng.word() % 16) as u8).collect();
         let (single, packed) = (rng.bytes(code::size_of(dims)), rng.bytes(block::size_of(dims)));
         let mut out = [0; 128];
         let mut forms = vec![Form::new("ours", || sums::code(dims, &query, &single, &mut out[..4]))];

@@ -27,7 +27,7 @@ struct Records {
 
 impl Records {
     fn new(rng: &mut Rng, dims: u32, layout: u32, n: usize) -> Records {
-        let codes = (0..dims).map(|_| (rng.next() % 16) as u8).collect();
+        let codes = (0..dims).map(|_| (rng.word() % 16) as u8).collect();
         let mut ours = Vec::new();
         if layout == 1 {
             for _ in 0..n {
@@ -176,10 +176,10 @@ fn sums_alone(clock: &Clock, rng: &mut Rng, each: &[(u32, u32, Vec<String>, Vec<
 
 /// The Rust's sum of a block or of a single code, in each of its forms.
 fn rust_sums(clock: &Clock, rng: &mut Rng, layout: u32, dims: u32, forms: &[(Level, &str)]) -> Vec<f64> {
-    let codes: Vec<u8> = (0..dims).map(|_| (rng.next() % 16) as u8).collect();
+    let codes: Vec<u8> = (0..dims).map(|_| (rng.word() % 16) as u8).collect();
     let (lut, planes) = (rabitq::gen(codes.clone()), rabitq::binarize(&codes));
     let nibbles = rng.bytes(16 * dims.div_ceil(4) as usize);
-    let words: Vec<u64> = (0..dims.div_ceil(64)).map(|_| rng.next()).collect();
+    let words: Vec<u64> = (0..dims.div_ceil(64)).map(|_| rng.word()).collect();
     let mut race = Vec::new();
     for (level, name) in forms {
         race.push(match layout {

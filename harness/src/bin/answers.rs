@@ -164,7 +164,7 @@ impl Reranking {
 // ---- the Rust
 
 fn mild(rng: &mut Rng) -> f32 {
-    (rng.next() >> 40) as f32 / (1 << 23) as f32 - 1.0
+    (rng.word() >> 40) as f32 / (1 << 23) as f32 - 1.0
 }
 
 fn milds(rng: &mut Rng, n: usize) -> Vec<f32> {

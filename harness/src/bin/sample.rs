@@ -15,7 +15,7 @@ const DIMS: usize = 128;
 const SPECTRA: usize = 96;
 
 fn unit(rng: &mut Rng) -> f32 {
-    (rng.next() >> 40) as f32 / (1 << 24) as f32
+    (rng.word() >> 40) as f32 / (1 << 24) as f32
 }
 
 fn spectrum(rng: &mut Rng) -> Vec<f32> {

@@ -73,10 +73,10 @@ fn pack(run: &mut Run) {
     let (dims, bits, size) = shape(run, &mood);
     let n = mood.length(&mut run.rng, if paper::bad_dims(dims) { 40 } else { dims as usize });
     let top = paper::top(if paper::bad_width(bits) { 8 } else { bits }) as u64;
-    let mut codes: Vec<u8> = (0..n).map(|_| (run.rng.next() % (top + 1)) as u8).collect();
+    let mut codes: Vec<u8> = (0..n).map(|_| (run.rng.word() % (top + 1)) as u8).collect();
     if mood.hurt(&mut run.rng) && n > 0 {
         let at = run.rng.below(n);
-        codes[at] = run.rng.next() as u8;
+        codes[at] = run.rng.word() as u8;
     }
     let len = mood.length(&mut run.rng, size);
     let olds = [run.rng.bytes(len)];

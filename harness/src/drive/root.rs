@@ -29,7 +29,7 @@ fn go(run: &mut Run) {
         }
         3 => f32::from_bits(rng.below(0x80_0000) as u32),
         4 => rng.pick(&[0.0, -0.0, f32::INFINITY, f32::MAX, f32::MIN_POSITIVE, -f32::MIN_POSITIVE]),
-        _ => f32::from_bits(rng.next() as u32 & 0x7FFF_FFFF),
+        _ => f32::from_bits(rng.word() as u32 & 0x7FFF_FFFF),
     };
     let len = mood.length(rng, 4);
     let olds = [rng.bytes(len)];

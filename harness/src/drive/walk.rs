@@ -71,10 +71,10 @@ fn go(run: &mut Run) {
         _ if right_n >= 4_096 && rng.once_in(2) => (right_n as u32 - 4_096, right_n as u32),
         0 => (0, right_n as u32),
         1 => {
-            let at = rng.next() as u32 >> rng.below(32);
+            let at = rng.word() as u32 >> rng.below(32);
             (at, at)
         }
-        2 => (rng.next() as u32 >> rng.below(32), rng.next() as u32 >> rng.below(32)),
+        2 => (rng.word() as u32 >> rng.below(32), rng.word() as u32 >> rng.below(32)),
         _ => {
             let (a, b) = (rng.below(right_n + 1) as u32, rng.below(right_n + 1) as u32);
             if rng.once_in(10) {
@@ -187,10 +187,8 @@ fn slipped(slip: &str, walk: Walk, olds: &[Vec<u8>], want: &Answer) -> Answer {
         "half-first" if (number == ACCEPTED || number == NO_ESTIMATE) && count > 0 => {
             return answer(&rust::walk(walk), olds);
         }
-        "nan-outside-the-range-refused" if number == ACCEPTED => {
-            if (0..walk.n).any(|id| walk.bound(id).is_nan()) {
-                return (NO_ESTIMATE, olds.to_vec());
-            }
+        "nan-outside-the-range-refused" if number == ACCEPTED && (0..walk.n).any(|id| walk.bound(id).is_nan()) => {
+            return (NO_ESTIMATE, olds.to_vec());
         }
         _ => {}
     }

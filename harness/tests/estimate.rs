@@ -112,7 +112,7 @@ fn like_the_rust(query: Query, asked: Asked, singles: &[u8]) -> usize {
     let mut compared = 0;
     for (k, single) in singles.chunks(code::size_of(dims)).enumerate() {
         let ours = of_code(query, asked, single);
-        // The estimate of a lane is that of its single code, or a NaN where the single call refuses with 8.
+        // A lane has the estimate of its single code. Where the single call says 8, it has a NaN.
         assert_eq!(ours, if lanes[k] == NAN { Err(8) } else { Ok(lanes[k]) }, "lane {k}, {query:?}");
         let (factors, sum) = (paper::estimate::factors_of_code(single), paper::sums::of_code(query.codes, single));
         if rust::halves_agree(query, factors, sum, asked) {

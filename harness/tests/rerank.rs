@@ -57,7 +57,7 @@ fn demand_3(estimates: &[f32], exact: &[f32], premise: bool) {
     let mut asked = vec![false; n];
     let mut given: Vec<(usize, f32)> = Vec::new();
     for call in 0.. {
-        assert!(call <= 2 * n, "a list of n is finished by n accepted distances and n gives");
+        assert!(call <= 2 * n, "a search of {n} places that does not end");
         let mut out = [0xEE; 16];
         assert_eq!(rerank::next(&bytes, &distances, &mut marks, &mut out), 0);
         let [answer, place, distance, count] = words(&out)[..] else { unreachable!() };
@@ -303,7 +303,7 @@ fn bad_lengths_come_first() {
     assert_eq!(try_supply(&[0; 16_384], &[0; 16_384], &[0; 4_096], 0, 1.0, 4), 0);
 }
 
-/// A NaN estimate at any place, whatever its mark; a NaN distance at an asked place alone; a NaN supplied.
+/// A NaN estimate anywhere; a NaN distance where the place is asked for, and nowhere else; a NaN supplied.
 #[test]
 fn then_what_is_missing() {
     for n in [1usize, 2, 5] {

@@ -206,7 +206,7 @@ fn row(entries: &[f32], levels: usize) -> Vec<f32> {
     entries.iter().flat_map(|x| std::iter::once(*x).chain(std::iter::repeat_n(0.0, levels - 1))).collect()
 }
 
-/// Entry 0 is min + 0 * del, worked out like the others: a NaN where del is infinite, and written as one pattern.
+/// Entry 0 takes its step like the others, 0 times del: a NaN where del is infinite, and written as one pattern.
 #[test]
 fn a_nan_entry_is_written() {
     let mut table = [0xEE; 8];

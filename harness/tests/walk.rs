@@ -276,7 +276,7 @@ fn then_a_bad_length() {
                 }
             }
         }
-        // A layout that is none states no length for the records; every other length is judged all the same.
+        // A layout that is none does not say how long the records are. The other lengths are judged all the same.
         for layout in [0, 3, 257, u32::MAX] {
             let w = Walk { query, layout, records: &[0xFF; 7], n: 40, start: 0, end: 99 };
             for wrong in [[31, 32, 8, 4], [32, 36, 8, 4], [32, 32, 9, 4], [32, 32, 8, 5], [16_388, 16_388, 4_097, 4]] {

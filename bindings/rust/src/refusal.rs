@@ -32,7 +32,7 @@ pub enum Refusal {
     BadValue = 5,
     /// A range that ends past the records, an index at or past dims, or a lane above 31.
     OutOfRange = 6,
-    /// The range has more ids than the output lists have places.
+    /// The range has more ids than there are places for them.
     NoRoom = 7,
     /// What the call works out is a NaN: an estimate, the lower bound of a wanted id, or a scalar sum.
     NoEstimate = 8,
@@ -132,7 +132,7 @@ impl fmt::Display for Refusal {
             Refusal::OutOfRange => {
                 "the range ends past the records, the index is at or past dims, or the lane is above 31"
             }
-            Refusal::NoRoom => "the range has more ids than the lists have places",
+            Refusal::NoRoom => "the range has more ids than there are places for them",
             Refusal::NoEstimate => "the estimate, the lower bound of a wanted id, or the scalar sum is a NaN",
             Refusal::NotAsked => "the distance is for a place that is not asked for now",
         };

@@ -1,7 +1,6 @@
-//! Module 5. "512 bytes: 32 dis_u_2, 32 factor_ppc, 32 factor_ip, 32 factor_err. Then 16 bytes for each group of four
-//! dimensions. Byte j of a group has lane j in its low half and lane j+16 in its high half; bit b of a nibble is
-//! dimension 4g+b. Size 512 + 16 x ceil(dims/4). Built from exactly 32 single codes laid end to end. Pad bits are
-//! ignored on reading, and written as 0 when a block is built or a lane is read back as a single code."
+//! Module 5. A block begins with its factors: four lists of 32 floats, a float for each lane. Then each four dimensions
+//! take 16 bytes. The first 16 lanes have the low halves of these bytes, the others the high ones, and the first of the
+//! four dimensions has the lowest bit. Bits past dims belong to nobody: they are not looked at, and come out as 0.
 
 use super::code::{self, bad_dims};
 use super::{after, first};

@@ -1,6 +1,5 @@
-//! Module 4. "Bytes 0..15: dis_u_2, factor_ppc, factor_ip, factor_err. Then ceil(dims/64) words of 64 bits; bit i of
-//! word w is dimension 64w+i, 1 when the sign bit is clear (-0.0 gives 0). The four factors are given by the caller and
-//! copied bit for bit. Size 16 + 8 x ceil(dims/64)."
+//! Module 4. A code is four factors, whatever the caller has for them, and a bit for each dimension. The bits stand in
+//! words of 64, the first one lowest. A bit is set where the sign bit of the number is not.
 
 use super::{after, first, missing};
 use crate::bytes;

@@ -1,5 +1,5 @@
-//! Module 1. "Width w puts 8/w codes in a byte, lowest bits first; the last byte is filled with zeros, ignored on
-//! reading. Code size is ceil(dims x w / 8)."
+//! Module 1. A byte has as many codes as fit into it, the first one lowest. What is left of the last byte is 0, and
+//! nothing reads it.
 
 use super::after;
 use crate::refusal::*;

@@ -1,8 +1,5 @@
-//! Module 7. "Each operation rounds once, from the left:
-//! L2 rough: ((dis_u_2 + dis_v_2) + b*factor_ppc) + ((2*S - Q)*factor_ip)*k.
-//! dot rough: half of b*factor_ppc plus half of ((2*S - Q)*factor_ip)*k, each half taken last.
-//! err: factor_err * root(dis_v_2); for dot, half of that. Lower bound: rough - 1.9*err, where 1.9 has bits
-//! 0x3FF33333."
+//! Module 7. The formulas stand in `rough`, `err` and `lower_bound`, their operations in the paper's order. Each one
+//! rounds to an f32.
 
 use super::code::{self, bad_dims};
 use super::{after, block, first, neither_1_nor_2, root, sums};
@@ -11,7 +8,7 @@ use crate::refusal::*;
 
 pub const EPSILON: f32 = f32::from_bits(0x3FF3_3333);
 
-/// "The query record holds dis_v_2, b, k as f32 beside dims codes."
+/// The query record and its codes, with the metric and the dims that a call is given beside them.
 #[derive(Debug, Clone, Copy)]
 pub struct Query<'a> {
     pub metric: u32,

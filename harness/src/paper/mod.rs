@@ -25,12 +25,12 @@ pub fn first(conditions: &[(u32, &dyn Fn() -> bool)]) -> u32 {
     conditions.iter().find(|(_, holds)| holds()).map_or(ACCEPTED, |(number, _)| *number)
 }
 
-/// "A NaN or infinity in a vector".
+/// Whether a number is missing: one that is not finite stands among the floats.
 pub fn missing(floats: &[u8]) -> bool {
     crate::bytes::floats(floats).iter().any(|x| !x.is_finite())
 }
 
-/// "a metric not 1 (L2) or 2 (dot), a layout not 1 (single codes) or 2 (blocks)".
+/// Whether a number is no metric, or no layout: there are two of either.
 pub fn neither_1_nor_2(number: u32) -> bool {
     number != 1 && number != 2
 }

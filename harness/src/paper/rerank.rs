@@ -1,8 +1,6 @@
-//! Module 9. "Lists of estimates, distances and marks (0 waiting, 1 asked, 2 given), one length, 0 to 4,096. Among
-//! waiting places take the least estimate, among asked ones the least distance, lower place first when equal, -0.0
-//! equal to +0.0. If a place waits and none is asked, or the least estimate is strictly below the least distance:
-//! answer Ask(place). Else if some place is asked: the asked one of least distance becomes given, answer Give(place,
-//! distance). Else Done."
+//! Module 9. Two places matter: the waiting one that may be nearest, by its estimate, and the nearest one asked for, by
+//! its distance. The first is asked for where it may be nearer than the second or there is no second. Otherwise the
+//! second is given. Where there is neither, all is done.
 
 use super::first;
 use crate::bytes;
@@ -43,7 +41,7 @@ pub fn rule(estimates: &[f32], distances: &[f32], marks: &[u8]) -> Answer {
     }
 }
 
-/// "how many marks it leaves at 1 or 2".
+/// The count that an accepted call reports: the places that wait no longer.
 pub fn asked(marks: &[u8]) -> u32 {
     marks.iter().filter(|mark| **mark == ASKED || **mark == GIVEN).count() as u32
 }

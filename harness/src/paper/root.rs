@@ -1,5 +1,5 @@
-//! Module 3. "Square root, f32, IEEE 754-2019 correctly rounded, ties to even, defined over whole numbers. Root of -0.0
-//! is -0.0, of +infinity itself, of a NaN or a number below 0: MISSING."
+//! Module 3. The f32 that is nearest to the root, worked out in whole numbers. Zeros and +infinity are roots of
+//! themselves. A NaN has none, and no number below 0.
 
 use super::{after, first};
 use crate::refusal::*;

@@ -1,7 +1,6 @@
-//! Module 2. "del = (max - min) / top; q = (x - min) / del; the code is q rounded to a whole number, ties to even, then
-//! clamped to 0..top, negatives 0. A q that is NaN gives 0, +infinity gives top. Table entry j of a dimension: y = min
-//! + j x del, then x*y for dot or (x - y)*(x - y) for L2. Table length dims x 2^w. A distance is the table entries at
-//! the code's digits added from the left starting at +0.0, negated for dot."
+//! Module 2. The codes of a column are steps from its min to its max, and a number gets the step that is nearest to it.
+//! A table has what each step adds to a distance. A distance is what the steps of a code add, from the left on, with
+//! the sign turned for dot.
 
 use super::digits::{bad_dims, bad_width, digit, packed, size_of, top};
 use super::{after, first, missing, neither_1_nor_2};

@@ -1,10 +1,10 @@
-//! Module 6. "The plain sum of the query codes at set bits", and the sum of all of them.
+//! Module 6. The query codes at a code's set bits, added up, and all of them added up.
 
 use super::code::{self, bad_dims};
 use super::{after, block, first};
 use crate::refusal::*;
 
-/// "query code above 15".
+/// Whether a query code has more than four bits.
 pub fn above_top(query: &[u8]) -> bool {
     query.iter().any(|code| *code > 15)
 }

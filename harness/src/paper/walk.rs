@@ -1,6 +1,5 @@
-//! Module 8. "Input: n records, at most 1,048,576 (else BAD_LENGTH), as single codes or as ceil(n/32) blocks; a range
-//! start..end. Output: ids from start up to end-1, ascending, each once, with lower bounds, and marks 0, in three lists
-//! of one length, at most 4,096; places past the count stay. start >= end gives count 0."
+//! Module 8. The ids of a range, from the first to the last, each with its record's lower bound and the mark of a place
+//! that waits. Nothing is written past them. A range whose end is not above its start has no ids.
 
 use super::code::{self, bad_dims};
 use super::estimate::{self, Asked, Query};

@@ -20,8 +20,8 @@ fn theirs(bits: u32, x: f32, min: f32, max: f32) -> u8 {
     rust::scalar_encode(1, bits, &[x], &[min], &[max])[0]
 }
 
-/// `process` asserts floor(dims / codes per byte) bytes while `encode` writes the ceiling: at dims 1 and width 1 it
-/// does not take the code that the Rust itself wrote.
+/// `process` rounds the size of a code down and `encode` rounds it up: at dims 1 and width 1 the one does not take what
+/// the other wrote.
 #[test]
 fn process_wants_the_floor_and_encode_writes_the_ceiling() {
     let code = rust::scalar_encode(1, 1, &[1.0], &[0.0], &[1.0]);

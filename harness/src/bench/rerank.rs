@@ -1,5 +1,4 @@
-//! Module 9. A call at 4,096 places is asked to take at most 0.5 of 13,900 ns on a machine where the Rust's portable
-//! block sum of 1,024 dims takes 5,148 ns, so at most 1.35 of that sum.
+//! Module 9. A call at 4,096 places is to take at most 1.35 of the time of the Rust's portable block sum at 1,024 dims.
 
 use super::{heading, Clock, Form};
 use crate::rng::Rng;

@@ -163,21 +163,13 @@ impl Reranking {
 
 // ---- the Rust
 
-fn mild(rng: &mut Rng) -> f32 {
-    (rng.word() >> 40) as f32 / (1 << 23) as f32 - 1.0
-}
-
-fn milds(rng: &mut Rng, n: usize) -> Vec<f32> {
-    (0..n).map(|_| mild(rng)).collect()
-}
-
 fn scalar(rng: &mut Rng) {
     title("The Rust's scalar quantizer: encode, table and distance.");
     for (i, bits) in [1u32, 2, 4, 8, 4, 2].into_iter().enumerate() {
         let dims = [8, 5, 7, 3, 16, 1][i];
-        let min: Vec<f32> = milds(rng, dims).iter().map(|x| x - 1.0).collect();
-        let max: Vec<f32> = min.iter().map(|low| low + mild(rng).abs() * 2.0).collect();
-        let vector: Vec<f32> = min.iter().map(|low| low + mild(rng) * 3.0).collect();
+        let min: Vec<f32> = rng.mild_floats(dims).iter().map(|x| x - 1.0).collect();
+        let max: Vec<f32> = min.iter().map(|low| low + rng.mild().abs() * 2.0).collect();
+        let vector: Vec<f32> = min.iter().map(|low| low + rng.mild() * 3.0).collect();
         let floats = [&vector, &min, &max].map(|floats| hex(&of_floats(floats)));
         let code = rust::scalar_encode(dims as u32, bits, &vector, &min, &max);
         accepted("scalar_encode", &[numbers(&[dims as u32, bits]), floats.to_vec()].concat(), &code);
@@ -205,19 +197,19 @@ struct Drawn {
 /// A query and 32 codes of mild factors.
 fn drawn(rng: &mut Rng, dims: usize) -> Drawn {
     let codes = (0..32).flat_map(|_| {
-        let factors = [mild(rng).abs(), mild(rng), mild(rng), mild(rng).abs()];
-        rust::code_encode(dims as u32, factors, &milds(rng, dims))
+        let factors = [rng.mild().abs(), rng.mild(), rng.mild(), rng.mild().abs()];
+        rust::code_encode(dims as u32, factors, &rng.mild_floats(dims))
     });
     let codes = codes.collect();
     let query = (0..dims).map(|_| rng.below(16) as u8).collect();
-    Drawn { query, codes, dis_v_2: mild(rng).abs(), b: mild(rng), k: mild(rng) }
+    Drawn { query, codes, dis_v_2: rng.mild().abs(), b: rng.mild(), k: rng.mild() }
 }
 
 fn codes_and_sums(rng: &mut Rng) {
     title("The Rust's codes, blocks and sums.");
     for dims in [1usize, 5, 64, 65] {
-        let vector = milds(rng, dims);
-        let factors = [mild(rng), mild(rng), mild(rng), mild(rng)];
+        let vector = rng.mild_floats(dims);
+        let factors = [rng.mild(), rng.mild(), rng.mild(), rng.mild()];
         let code = rust::code_encode(dims as u32, factors, &vector);
         let arguments = [numbers(&[dims as u32]), vec![hex(&of_floats(&factors)), hex(&of_floats(&vector))]].concat();
         accepted("code_encode", &arguments, &code);
@@ -289,8 +281,8 @@ fn estimates_and_walks(rng: &mut Rng) {
 fn reranking(rng: &mut Rng) {
     title("Whole runs of the Rust's reranker, on distances that are all different.");
     for n in [1usize, 3, 8] {
-        let estimates = milds(rng, n);
-        let distances: Vec<f32> = estimates.iter().map(|estimate| estimate + mild(rng).abs()).collect();
+        let estimates = rng.mild_floats(n);
+        let distances: Vec<f32> = estimates.iter().map(|estimate| estimate + rng.mild().abs()).collect();
         let mut run = Reranking {
             estimates: hex(&of_floats(&estimates)),
             distances: of_floats(&vec![0.0; n]),

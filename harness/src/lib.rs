@@ -4,17 +4,20 @@
 //! wrappers: they take slices of any length, so that damaged input can be tried, and return the refusal number.
 //! `paper` is a plain reading of the paper to compare with, and `upstream` is the Rust that is ported. Neither shares a
 //! line with the library. `rust` calls that Rust on the buffers of the C functions. `drive` tries every call on random
-//! input, and `bench` measures. `program` finds the proved programs for the tests that run them.
+//! input, `bench` measures time, and `stack` the stack that a call takes. `header` reads the header's text. `program`
+//! finds the proved programs for the tests that run them.
 
 pub mod bench;
 pub mod bytes;
 pub mod draw;
 pub mod drive;
+pub mod header;
 pub mod paper;
 pub mod program;
 pub mod refusal;
 pub mod rng;
 pub mod rust;
+pub mod stack;
 #[path = "../../bindings/rust/src/sys.rs"]
 pub mod sys;
 pub mod trial;

@@ -5,7 +5,6 @@
 
 use std::hint::black_box;
 use std::panic::{catch_unwind, AssertUnwindSafe};
-use std::thread;
 
 /// Bytes on either side of a lent buffer.
 const GUARD: usize = 67;
@@ -118,12 +117,4 @@ pub fn one(what: &str, len: usize, call: impl Fn(&mut [u8]) -> u32, want: impl F
 /// Whether the Rust ends the program here, where the library refuses or answers.
 pub fn panics<R>(f: impl FnOnce() -> R) -> bool {
     catch_unwind(AssertUnwindSafe(f)).is_err()
-}
-
-/// Runs `f` on a stack of so many KiB, as the header states them. The harness's own frames get 16 KiB more.
-pub fn on_a_stack_of<R: Send>(kib: usize, f: impl FnOnce() -> R + Send) -> R {
-    thread::scope(|scope| {
-        let small = thread::Builder::new().stack_size((kib + 16) * 1024);
-        small.spawn_scoped(scope, f).unwrap().join().unwrap()
-    })
 }

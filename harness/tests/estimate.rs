@@ -184,19 +184,6 @@ fn boundaries_in_every_place() {
     }
 }
 
-/// A call on a single code takes at most 4 KiB of stack, one on a block 92 KiB.
-#[test]
-fn a_small_stack_is_enough() {
-    let codes = vec![15; 4_369];
-    let (single, packed) = (vec![0; code::size_of(4_369)], vec![0; block::size_of(4_369)]);
-    for asked in BOTH {
-        let query = sound(1, &codes);
-        let (mut out, mut lanes) = ([0xEE; 4], [0xEE; 128]);
-        assert_eq!(trial::on_a_stack_of(4, || estimate::code(query, asked, &single, &mut out)), 0);
-        assert_eq!(trial::on_a_stack_of(92, || estimate::block(query, asked, &packed, &mut lanes)), 0);
-    }
-}
-
 // ---- what is refused
 
 /// A query that everything but one thing is right with.

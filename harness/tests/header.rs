@@ -1,43 +1,7 @@
 //! The declarations that the harness calls are those of include/lintelkite.h: names, order, parameters and types.
 
+use harness::header::{self, one_line, Function};
 use std::collections::BTreeMap;
-
-/// A function: its name, then each parameter's name and type, spelled the C way.
-type Function = (String, Vec<(String, String)>);
-
-fn one_line(text: &str) -> String {
-    text.split_whitespace().collect::<Vec<_>>().join(" ")
-}
-
-/// The text without /* .. */ comments and preprocessor lines.
-fn bare_c(text: &str) -> String {
-    let mut bare = String::new();
-    let mut rest = text;
-    while let Some(at) = rest.find("/*") {
-        bare.push_str(&rest[..at]);
-        bare.push(' ');
-        rest = &rest[at + 2..];
-        rest = &rest[rest.find("*/").expect("a comment ends") + 2..];
-    }
-    bare.push_str(rest);
-    bare.lines().filter(|line| !line.trim_start().starts_with('#')).collect::<Vec<_>>().join("\n")
-}
-
-fn c_functions(header: &str) -> Vec<Function> {
-    let mut found = Vec::new();
-    for piece in bare_c(header).split(';') {
-        let piece = one_line(piece);
-        let Some(at) = piece.find("uint32_t lk_") else { continue };
-        let (name, parameters) = piece[at + "uint32_t ".len()..].split_once('(').expect("a parameter list");
-        let parameters = parameters.strip_suffix(')').expect("a parameter list ends");
-        let parameters = parameters.split(',').map(|parameter| {
-            let cut = parameter.rfind([' ', '*']).unwrap() + 1;
-            (parameter[cut..].to_string(), one_line(&parameter[..cut]))
-        });
-        found.push((name.to_string(), parameters.collect()));
-    }
-    found
-}
 
 fn rust_functions(sys: &str) -> Vec<Function> {
     let c = BTreeMap::from([
@@ -64,7 +28,7 @@ fn rust_functions(sys: &str) -> Vec<Function> {
 
 #[test]
 fn the_header_and_sys_declare_the_same() {
-    let header = c_functions(include_str!("../../include/lintelkite.h"));
+    let header = header::functions();
     let sys = rust_functions(include_str!("../../bindings/rust/src/sys.rs"));
     assert!(!header.is_empty());
     assert_eq!(header, sys);
@@ -73,8 +37,7 @@ fn the_header_and_sys_declare_the_same() {
 /// The header's list of refusals is that of the driver, which reaches each of them and meets no other.
 #[test]
 fn the_header_lists_the_refusals_of_each_call() {
-    let header = include_str!("../../include/lintelkite.h");
-    let listed: BTreeMap<&str, Vec<u32>> = header
+    let listed: BTreeMap<&str, Vec<u32>> = header::TEXT
         .lines()
         .filter_map(|line| line.strip_prefix(" *   lk_").map(|_| &line[" *   ".len()..]))
         .map(|line| {
@@ -83,7 +46,7 @@ fn the_header_lists_the_refusals_of_each_call() {
         })
         .collect();
     assert_eq!(listed, driven());
-    assert_eq!(listed.len(), c_functions(header).len());
+    assert_eq!(listed.len(), header::functions().len());
 }
 
 /// The refusals of each C function, as the driver has them.
@@ -109,7 +72,7 @@ fn the_promises_list_the_refusals_of_each_call() {
 
 #[test]
 fn the_header_and_refusal_number_alike() {
-    let header = bare_c(include_str!("../../include/lintelkite.h"));
+    let header = header::bare();
     for (number, name) in harness::refusal::NAMES.iter().enumerate() {
         let entry = format!("LK_{name} = {number}");
         let stands = header.split([',', '{', '}']).any(|piece| piece.trim() == entry);

@@ -136,17 +136,6 @@ fn each_place_counts_its_own_code() {
     }
 }
 
-/// A call on a single code takes at most 4 KiB of stack, one on a block 72 KiB.
-#[test]
-fn a_small_stack_is_enough() {
-    let query = vec![15; 4_369];
-    let (single, packed) = (vec![0xFF; code::size_of(4_369)], vec![0xFF; block::size_of(4_369)]);
-    let (mut out, mut lanes) = ([0xEE; 4], [0xEE; 128]);
-    assert_eq!(trial::on_a_stack_of(4, || sums::code(4_369, &query, &single, &mut out)), 0);
-    assert_eq!(trial::on_a_stack_of(72, || sums::block(4_369, &query, &packed, &mut lanes)), 0);
-    assert_eq!((words(&out), words(&lanes)), (vec![65_535], vec![65_535; 32]));
-}
-
 // ---- what is refused
 
 #[test]

@@ -183,22 +183,6 @@ fn the_most_blocks() {
     }
 }
 
-/// A walk takes at most 92 KiB of stack.
-#[test]
-fn a_small_stack_is_enough() {
-    let mut rng = Rng::new(6);
-    let codes = rng.query(4_369);
-    let records = singles(&mut rng, 4_369, 64, mild);
-    let packed = blocks(4_369, &records);
-    for (layout, records) in [(1, &records), (2, &packed)] {
-        let w = Walk { query: sound(1, &codes), layout, records, n: 64, start: 0, end: 64 };
-        let mut lists = lens(4_096).map(|len| vec![0xEE; len]);
-        let [ids, bounds, marks, count] = &mut lists;
-        assert_eq!(trial::on_a_stack_of(92, || walk::walk(w, ids, bounds, marks, count)), 0);
-        assert_eq!(words(&lists[3]), [64]);
-    }
-}
-
 /// An empty range is accepted wherever it lies, and reads nothing.
 #[test]
 fn empty_ranges() {

@@ -230,6 +230,24 @@ pub fn walk(walk: Walk) -> Vec<(u32, f32)> {
     }
 }
 
+/// Whether ours can be compared with it, where we judge no more than the bounds: it takes the range, and for each id its
+/// halves agree.
+pub fn walk_agrees(walk: Walk) -> bool {
+    let Walk { query, layout, records, start, end, .. } = walk;
+    let (single, blocks) = (code::size_of(query.dims), block::size_of(query.dims));
+    let halves = |id: usize| {
+        let (factors, sum) = if layout == 1 {
+            let code = &records[id * single..][..single];
+            (paper::estimate::factors_of_code(code), paper::sums::of_code(query.codes, code))
+        } else {
+            let block = &records[id / 32 * blocks..][..blocks];
+            (paper::estimate::factors_of_lane(block, id % 32), paper::sums::of_lane(query.codes, block, id % 32))
+        };
+        halves_agree(query, factors, sum, Asked::LowerBound)
+    };
+    (layout == 1 || start != end) && (start..end).all(|id| halves(id as usize))
+}
+
 // ---- searches
 
 /// What a search does: it asks for a distance, or hands a place out.

@@ -370,15 +370,24 @@ fn then_a_sum_that_is_a_nan() {
     }
 }
 
+/// At width 8 a table has 67 MB, so each is written once and read once.
 #[test]
 fn the_most_dims() {
-    let n = 65_535;
-    let (v, a, b) = (of_floats(&vec![0.25; n]), of_floats(&vec![0.0; n]), of_floats(&vec![1.0; n]));
+    let (dims, n) = (65_535, 65_535);
+    let mut rng = Rng::new(3);
+    let (v, a, b) = (of_floats(&rng.mild_floats(n)), of_floats(&vec![-1.0; n]), of_floats(&vec![1.0; n]));
     for bits in WIDTHS {
-        assert_eq!(try_encode(65_535, bits, &v, &a, &b, size_of(65_535, bits)), 0);
+        assert_eq!(try_encode(dims, bits, &v, &a, &b, size_of(dims, bits)), 0);
+        let code = rng.bytes(size_of(dims, bits));
+        for metric in [1, 2] {
+            let old = vec![0xEE; (4 * n) << bits];
+            let mut table = old.clone();
+            let number = scalar::table(metric, dims, bits, &v, &a, &b, &mut table);
+            let want = paper::scalar::table(metric, dims, bits, &v, &a, &b, &old);
+            assert!((number, &table) == (0, &want.1), "the table of metric {metric}, width {bits}");
+            assert_eq!(try_distance(metric, dims, bits, &table, &code, 4), 0);
+        }
     }
-    assert_eq!(try_table(1, 65_535, 1, [&v, &a, &b], (4 * n) << 1), 0);
-    assert_eq!(try_distance(2, 65_535, 1, &vec![0; 8 * n], &vec![0xFF; size_of(65_535, 1)], 4), 0);
 }
 
 #[test]

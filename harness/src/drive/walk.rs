@@ -3,11 +3,11 @@
 use super::estimate::{factors, random_block, record, Record};
 use super::{Answer, Call, Run};
 use crate::draw::{code_len, Mood};
-use crate::paper::estimate::{Asked, Query};
+use crate::paper::estimate::Query;
 use crate::paper::walk::{self as paper, Walk};
 use crate::refusal::*;
 use crate::rng::Rng;
-use crate::{bytes, paper::block, paper::code, paper::estimate, paper::sums, rust, walk};
+use crate::{bytes, rust, walk};
 
 pub const CALLS: &[Call] = &[Call {
     name: "lk_walk",
@@ -109,26 +109,13 @@ fn go(run: &mut Run) {
         },
         want.clone(),
         || {
-            // `divide` reads a block for an empty range, and dot's halves must be exact.
-            if !judged || (layout == 2 && start == end) || !(start..end).all(|id| agrees(walk, id)) {
+            if !judged || !rust::walk_agrees(walk) {
                 return None;
             }
             Some(answer(&rust::walk(walk), &olds))
         },
         |slip| slipped(slip, walk, &olds, &want),
     );
-}
-
-fn agrees(walk: Walk, id: u32) -> bool {
-    let (dims, id) = (walk.query.dims, id as usize);
-    let (factors, sum) = if walk.layout == 1 {
-        let single = &walk.records[id * code::size_of(dims)..][..code::size_of(dims)];
-        (estimate::factors_of_code(single), sums::of_code(walk.query.codes, single))
-    } else {
-        let block = &walk.records[id / 32 * block::size_of(dims)..][..block::size_of(dims)];
-        (estimate::factors_of_lane(block, id % 32), sums::of_lane(walk.query.codes, block, id % 32))
-    };
-    rust::halves_agree(walk.query, factors, sum, Asked::LowerBound)
 }
 
 /// The answer that hands out these ids and bounds: a NaN among them is a refusal.

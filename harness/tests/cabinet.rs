@@ -4,15 +4,9 @@
 use harness::cabinet::{random, Cabinet, DOT, L2};
 use harness::program::{built, root};
 use harness::rng::Rng;
-use std::path::{Path, PathBuf};
+use std::path::PathBuf;
 use std::process::Command;
-use std::sync::OnceLock;
 use std::{env, fs};
-
-fn program() -> &'static Path {
-    static PROGRAM: OnceLock<PathBuf> = OnceLock::new();
-    PROGRAM.get_or_init(|| built("cabinet"))
-}
 
 /// A folder of its own for a test, removed at the end.
 struct Folder(PathBuf);
@@ -28,7 +22,7 @@ impl Folder {
         fs::write(self.0.join("records"), records).unwrap();
         fs::write(self.0.join("distances"), distances).unwrap();
         let wanted = wanted.map(|n| n.to_string());
-        let ran = Command::new(program())
+        let ran = Command::new(built("cabinet"))
             .args(["records", "distances"])
             .args(&wanted)
             .current_dir(&self.0)
@@ -245,7 +239,7 @@ fn commands() {
     let usage = "usage: cabinet RECORDS DISTANCES [WANTED]\n";
     let cabinet = random(&mut Rng::new(11), L2, 4, 3, false);
     let said = |arguments: &[&str]| {
-        let ran = Command::new(program()).args(arguments).current_dir(&folder.0).output().unwrap();
+        let ran = Command::new(built("cabinet")).args(arguments).current_dir(&folder.0).output().unwrap();
         String::from_utf8(ran.stdout).unwrap()
     };
     fs::write(folder.0.join("records"), cabinet.records_file()).unwrap();

@@ -3,14 +3,12 @@
 
 use harness::program::{built, root};
 use std::process::Command;
-use std::sync::OnceLock;
 use std::{env, fs};
 
 fn said_of(name: &str, list: &str) -> String {
-    static PROGRAM: OnceLock<std::path::PathBuf> = OnceLock::new();
     let path = env::temp_dir().join(format!("lintelkite-vectors-{}-{name}", std::process::id()));
     fs::write(&path, list).unwrap();
-    let ran = Command::new(PROGRAM.get_or_init(|| built("vectors"))).arg(&path).output().expect("the program runs");
+    let ran = Command::new(built("vectors")).arg(&path).output().expect("the program runs");
     fs::remove_file(&path).unwrap();
     String::from_utf8(ran.stdout).unwrap()
 }

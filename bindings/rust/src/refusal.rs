@@ -64,19 +64,17 @@ impl Refusal {
         self as u32
     }
 
-    /// The refusal with this number. An accepted call returns 0, and that is none.
-    ///
-    /// # Errors
-    /// [`Refusal::BadValue`]: there is none.
+    /// The refusal with this number, if there is one. An accepted call returns 0, and that is none.
     ///
     /// ```
     /// use lintelkite::Refusal;
     ///
-    /// assert_eq!(Refusal::of_number(7), Ok(Refusal::NoRoom));
-    /// assert_eq!(Refusal::of_number(0), Err(Refusal::BadValue));
+    /// assert_eq!(Refusal::of_number(7), Some(Refusal::NoRoom));
+    /// assert_eq!(Refusal::of_number(0), None);
     /// ```
-    pub fn of_number(number: u32) -> Result<Refusal, Refusal> {
-        Refusal::ALL.into_iter().find(|refusal| refusal.number() == number).ok_or(Refusal::BadValue)
+    #[must_use]
+    pub fn of_number(number: u32) -> Option<Refusal> {
+        Refusal::ALL.into_iter().find(|refusal| refusal.number() == number)
     }
 
     /// The name that it has in the C header, without its `LK_`.
@@ -146,6 +144,6 @@ impl Error for Refusal {}
 pub(crate) fn judge(number: u32) -> Result<(), Refusal> {
     match number {
         0 => Ok(()),
-        n => Err(Refusal::of_number(n).unwrap_or_else(|_| panic!("the archive is not of this version: refusal {n}"))),
+        n => Err(Refusal::of_number(n).unwrap_or_else(|| panic!("the archive is not of this version: refusal {n}"))),
     }
 }

@@ -12,7 +12,7 @@ fn stands(entry: String) {
 fn refusals() {
     for refusal in Refusal::ALL {
         stands(format!("LK_{} = {}", refusal.name(), refusal.number()));
-        assert_eq!(Refusal::of_number(refusal.number()), Ok(refusal));
+        assert_eq!(Refusal::of_number(refusal.number()), Some(refusal));
     }
 }
 

@@ -27,8 +27,8 @@ fn turn(est: &[u8], dis: &mut [u8], marks: &mut [u8], table: &[f32]) -> bool {
         say(b"Refused ", refused);
         return false;
     }
-    let p = words::wide(words::byte_at(&out, 4));
-    match words::byte_at(&out, 0) {
+    let p = words::u32_at(&out, 4);
+    match words::u32_at(&out, 0) {
         1 => {
             say(b"Ask ", p);
             answer_ask(est, dis, marks, p, table);
@@ -39,7 +39,7 @@ fn turn(est: &[u8], dis: &mut [u8], marks: &mut [u8], table: &[f32]) -> bool {
             true
         }
         _ => {
-            say(b"Done ", words::wide(words::byte_at(&out, 12)));
+            say(b"Done ", words::u32_at(&out, 12));
             false
         }
     }

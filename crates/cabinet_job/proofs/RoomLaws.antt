@@ -1,22 +1,11 @@
 -- What an accepted walk tells. Assumes nothing.
-use Prim.Native.Nat.{ℕ, zero, suc, _-_, _≤_}
+use Prim.Native.Nat.{ℕ, _-_, _≤_}
 use mathlib.Core.List.{List}
-use mathlib.Core.Path.{_≡_, refl, sym, ap, _∙_}
-use native.Mathlib.Omega.{arith}
+use mathlib.Core.Path.{_≡_, sym, ap, _∙_}
 use lib.ListN.{length}
-use Rattle.words.specs.Refusals.{orElse}
+use Rattle.words.proofs.RefusalLaws.{else-none}
 use Rattle.walk.specs.Walk.{rangeNumber, walkNumber, walkAnswer}
 use Rattle.walk.proofs.AnswerLaws.{inside}
-
-first-none : (a b : ℕ) → orElse a b ≡ 0 → a ≡ 0
-unfolding orElse
-first-none zero b e = refl
-first-none (suc a) b e = e
-
-second-none : (a b : ℕ) → orElse a b ≡ 0 → b ≡ 0
-unfolding orElse
-second-none zero b e = e
-second-none (suc a) b e = absurd (omega arith)
 
 -- its range has no more ids than the lists have places
 pub walk-room : (r metric layout dims : ℕ) (v : _) (qs rs : List ℕ) (n start end : ℕ) (ids bounds marks count ids′ bounds′ marks′ count′ : List ℕ)
@@ -26,4 +15,4 @@ unfolding walkAnswer walkNumber
 walk-room r metric layout dims v qs rs n start end ids bounds marks count ids′ bounds′ marks′ count′ e z =
     let accepted : walkNumber metric layout dims v qs rs n start end ids bounds marks count ≡ 0 =
     sym (ap (λ (p : ℕ × List ℕ × List ℕ × List ℕ × List ℕ). p .0) e) ∙ z in
-    inside n start end (length marks) (first-none (rangeNumber n start end (length marks)) _ (second-none _ _ accepted)) .1
+    inside n start end (length marks) (else-none (rangeNumber n start end (length marks)) _ (else-none _ _ accepted .1) .0) .1

@@ -10,7 +10,7 @@ use Rattle.words.specs.Floats.{missing}
 use Rattle.words.specs.Limits.{mostDims, mostScalarDims, topCode}
 use Rattle.words.specs.Lists.{anyBelow, anyAbove}
 use Rattle.words.specs.Metrics.{metricOf}
-use Rattle.words.specs.Refusals.{answer, orElse, badDims, badLength, badForm, sizeNumber, sizeAnswer}
+use Rattle.words.specs.Refusals.{answer, orElse, badDims, badLength, badLists, badForm, sizeNumber, sizeAnswer}
 use Rattle.words.proofs.RefusalLaws.{after-refused}
 use Rattle.digits.specs.Digits.{isWidth, top, packedSize}
 use Rattle.digits.specs.Calls as digits
@@ -181,7 +181,7 @@ demand-1 =
           record {
             listed = joint _ _
                 (queried dims
-                (walks.badLengths layout dims n (length records) (walks.badLists (length ids) (length bounds) (length marks) (length count))) v query
+                (walks.badLengths layout dims n (length records) (walks.badOuts (length ids) (length bounds) (length marks) (length count))) v query
                 (badForm metric || badForm layout) (at refl) (at refl) (at refl) (at refl) (at refl))
                 (joint _ _ (row (walks.outOfRange n start end) (at refl) (row (ltb (length marks) (end - start)) (at refl) (at refl)))
                 (row (anyBelow (end - start) (λ j. isNan (walks.boundOf (walks.layoutOf layout) (metricOf metric) v query records (start + j)))) (at refl)
@@ -191,14 +191,14 @@ demand-1 =
       lk-rerank-next = λ estimates distances marks out.
           let number = rerank.nextNumber estimates distances marks out in
           record {
-            listed = row (rerank.badLists estimates distances marks || badLength out 16) (at refl) (ruled _ (at refl) (at refl) (at refl));
+            listed = row (badLists (length estimates) (length distances) (length marks) || badLength out 16) (at refl) (ruled _ (at refl) (at refl) (at refl));
             kept = λ e. (after-refused number marks _ e, after-refused number out _ e);
           };
       lk-rerank-supply = λ estimates distances marks place distance out.
           let number = rerank.supplyNumber estimates distances marks place distance out in
           let state = rerank.stateOf estimates distances marks in
           record {
-            listed = row (rerank.badLists estimates distances marks || badLength out 4) (at refl)
+            listed = row (badLists (length estimates) (length distances) (length marks) || badLength out 4) (at refl)
                 (row (rule.missing state || isNan distance) (at refl)
                 (row (badMark state) (at refl) (row (asksFor (rule.answerOf state) place) (at refl) (at refl))));
             kept = λ e. (after-refused number distances _ e, after-refused number marks _ e, after-refused number out _ e);

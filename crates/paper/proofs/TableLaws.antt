@@ -7,7 +7,7 @@ use lib.Ieee.{odd, units, size, span, climb, round, sum, add, neg, sub, div, ofI
 use Rattle.words.specs.Bytes.{numAt, bytesOf, wordsOf, f32At, floatBytes}
 use Rattle.words.specs.Digits.{bit, join, kept}
 use Rattle.words.specs.Lists.{anyBelow, joined, tabulate}
-use Rattle.words.specs.Refusals.{after, badLength}
+use Rattle.words.specs.Refusals.{after, badLength, badLists}
 use Rattle.words.specs.Sums.{sumTo}
 use Rattle.digits.specs.Digits.{digitAt, packedByte, packed}
 use Rattle.scalar.specs.Code.{delOf, quotient, rounded, roundedCode, dimensionCode, codesOf, scalarCode}
@@ -16,7 +16,7 @@ use Rattle.code.specs.Code.{codeWords, codeByte, codeOf, codeWord, codeBit, wor
 use Rattle.sums.specs.Sums.{plainSum, querySum, planeWord, planeOnes, planeCount}
 use Rattle.sums.proofs.FullLaws.{full-sum}
 use Rattle.rerank.specs.Rerank.{better, least, choose, answerOf, asksFor, missing, missingAt, badMark, nextRefusal, supplyRefusal, counted}
-use Rattle.rerank.specs.Calls.{badLists, answerBytes, nextNumber, nextAnswer, supplyNumber, supplyAnswer}
+use Rattle.rerank.specs.Calls.{answerBytes, nextNumber, nextAnswer, supplyNumber, supplyAnswer}
 use Rattle.rerank.specs.Demand.{call, told, seen, left, numbers, heard, turn, turns}
 use Rattle.paper.specs.Table.{Table}
 

@@ -12,13 +12,13 @@ use lib.Ieee.{Float, fits, ofBits, binary32}
 use lib.Ieee.Bits.{ofBits-toBits, toBits-lt, ofBits-fits}
 use Rattle.words.specs.Bytes.{numAt, bytesOf, wordsOf, f32At, floatBytes}
 use Rattle.words.specs.Lists.{joined}
-use Rattle.words.specs.Refusals.{after, badLength}
+use Rattle.words.specs.Refusals.{after, badLength, badLists}
 use Rattle.words.proofs.ByteLaws.{num-bytes}
 use Rattle.words.proofs.RefusalLaws.{no-row, neither, after-accepted}
 use Rattle.words.proofs.WordsLaws.{num-words}
 use Rattle.rerank.specs.Rerank.{State, answerOf, nextRefusal, supplyRefusal, supplied, counted, Event, asked, supply, gave, done, Accepted}
 use Rattle.rerank.specs.Rerank.{then, ran, Run}
-use Rattle.rerank.specs.Calls.{stateOf, badLists, answerNumber, answerPlace, answerBits, answerMarks, answerBytes, nextNumber, nextAnswer, supplyNumber}
+use Rattle.rerank.specs.Calls.{stateOf, answerNumber, answerPlace, answerBits, answerMarks, answerBytes, nextNumber, nextAnswer, supplyNumber}
 use Rattle.rerank.specs.Calls.{supplyAnswer}
 use Rattle.rerank.specs.Demand.{Lists, Call, next, supplies, held, call, told, seen, reported, left, heard, notWaiting}
 use Rattle.rerank.specs.declared.Answer.{Answer}
@@ -72,11 +72,11 @@ told-is Done n h f = rw (told-number Done n)
 -- ---- one call
 -- what an accepted call was lent and found
 module _ (e d m out : List ℕ) (z : nextNumber e d m out ≡ 0) where
-  rows : ((badLists e d m ≡ false) × (badLength out 16 ≡ false)) × (nextRefusal (stateOf e d m) ≡ 0)
+  rows : ((badLists (length e) (length d) (length m) ≡ false) × (badLength out 16 ≡ false)) × (nextRefusal (stateOf e d m) ≡ 0)
   unfolding nextNumber
   rows =
-      let a = no-row (badLists e d m || badLength out 16) 2 (nextRefusal (stateOf e d m)) z in
-      (neither (badLists e d m) (badLength out 16) (a .0), a .1)
+      let a = no-row (badLists (length e) (length d) (length m) || badLength out 16) 2 (nextRefusal (stateOf e d m)) z in
+      (neither (badLists (length e) (length d) (length m)) (badLength out 16) (a .0), a .1)
 
   next-sized : Sized e d m
   next-sized = sized-of e d m (rows .0 .0)
@@ -109,11 +109,11 @@ module _ (e d m out : List ℕ) (z : nextNumber e d m out ≡ 0) where
   state-is Done h = refl
 
 module _ (e d m : List ℕ) (p bits : ℕ) (out : List ℕ) (z : supplyNumber e d m p (ofBits binary32 bits) out ≡ 0) where
-  supply-rows : (badLists e d m ≡ false) × (supplyRefusal (stateOf e d m) p (ofBits binary32 bits) ≡ 0)
+  supply-rows : (badLists (length e) (length d) (length m) ≡ false) × (supplyRefusal (stateOf e d m) p (ofBits binary32 bits) ≡ 0)
   unfolding supplyNumber
   supply-rows =
-      let a = no-row (badLists e d m || badLength out 4) 2 (supplyRefusal (stateOf e d m) p (ofBits binary32 bits)) z in
-      (neither (badLists e d m) (badLength out 4) (a .0) .0, a .1)
+      let a = no-row (badLists (length e) (length d) (length m) || badLength out 4) 2 (supplyRefusal (stateOf e d m) p (ofBits binary32 bits)) z in
+      (neither (badLists (length e) (length d) (length m)) (badLength out 4) (a .0) .0, a .1)
 
   supply-sized : Sized e d m
   supply-sized = sized-of e d m (supply-rows .0)

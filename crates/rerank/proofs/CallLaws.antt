@@ -11,12 +11,12 @@ use lib.Seq.{sets, set-out}
 use lib.Ieee.{Float, isNan, ne, binary32, ofBits, toBits}
 use Rattle.words.specs.Bytes.{bytesOf, f32At, floatBytes}
 use Rattle.words.specs.Limits.{mostPlaces}
-use Rattle.words.specs.Refusals.{after, orElse, badLength}
+use Rattle.words.specs.Refusals.{after, orElse, badLength, badLists}
 use Rattle.words.proofs.ByteLaws.{length-bytesOf, length-floatBytes, sets-append, sets-all}
 use Rattle.words.proofs.FloatLaws.{nan-tells, number-tells}
-use Rattle.words.proofs.RefusalLaws.{no-row, neither, length-is, after-refused}
+use Rattle.words.proofs.RefusalLaws.{no-row, neither, length-is, else-none, after-refused}
 use Rattle.rerank.specs.Rerank.{IsLeast, answerOf, asksFor, missing, badMark, nextRefusal, supplyRefusal, oneOrTwo, counted}
-use Rattle.rerank.specs.Calls.{stateOf, badLists, answerMarks, answerBytes, nextNumber, nextAnswer, supplyNumber, supplyAnswer}
+use Rattle.rerank.specs.Calls.{stateOf, answerMarks, answerBytes, nextNumber, nextAnswer, supplyNumber, supplyAnswer}
 use Rattle.rerank.specs.Demand.{notWaiting}
 use Rattle.scan.specs.Parts.{ScanTo}
 use Rattle.rerank.specs.Parts.{Accepting, Ruled, foundNumber, listsNumber}
@@ -91,7 +91,7 @@ module _ (a : Answer) (n : ℕ) (out : List ℕ) where
   done-bytes e h = rw e (h ∙ ap (λ (z : List ℕ). bytesOf 4 0 ++ bytesOf 4 0 ++ z ++ bytesOf 4 n) zero-bytes)
 
 -- ---- what a call on the lists is refused with
-module _ (e d m : List ℕ) (other nan b : Bool) (h : b ≡ (badLists e d m || other)) where
+module _ (e d m : List ℕ) (other nan b : Bool) (h : b ≡ (badLists (length e) (length d) (length m) || other)) where
   refuses : (n : ℕ) (r : Ruling) → n ≡ listsNumber e d m other nan → (n ≡ 0 → ⊥) → r .refused ≡ n → Ruled e d m other nan r
   refuses n r e z q = record { refusal = q ∙ e; says = λ w. absurd (z (sym q ∙ w)) }
 
@@ -110,8 +110,8 @@ module _ (e d m : List ℕ) (other nan b : Bool) (h : b ≡ (badLists e d m || o
       pub accepting : Accepting e d m s
       unfolding listsNumber
       accepting =
-          let lists = no-row (badLists e d m || other) 2 _ (sym by-scan ∙ z) in
-          record { sized = neither (badLists e d m) other (lists .0) .0; scanned = k; accepted = no-row nan 3 _ (lists .1) .1 }
+          let lists = no-row (badLists (length e) (length d) (length m) || other) 2 _ (sym by-scan ∙ z) in
+          record { sized = neither (badLists (length e) (length d) (length m)) other (lists .0) .0; scanned = k; accepted = no-row nan 3 _ (lists .1) .1 }
 
       pub ruled-accepted : (r : Ruling) → r .refused ≡ 0 → r .answer ≡ answerOf (stateOf e d m) → r .count ≡ s .count → Ruled e d m other nan r
       unfolding notWaiting
@@ -140,12 +140,12 @@ module _ (e d m out : List ℕ) (r : Ruling) (k : Ruled e d m (not (eqb (length 
       rw (← number-is, after-refused (r .refused) m (answerMarks a m) z, after-refused (r .refused) out new z)
 
   module _ (z : r .refused ≡ 0) where
-    next-rows : ((badLists e d m || badLength out 16) ≡ false) × (nextRefusal (stateOf e d m) ≡ 0)
+    next-rows : ((badLists (length e) (length d) (length m) || badLength out 16) ≡ false) × (nextRefusal (stateOf e d m) ≡ 0)
     unfolding nextNumber
-    next-rows = no-row (badLists e d m || badLength out 16) 2 (nextRefusal (stateOf e d m)) (sym number-is ∙ z)
+    next-rows = no-row (badLists (length e) (length d) (length m) || badLength out 16) 2 (nextRefusal (stateOf e d m)) (sym number-is ∙ z)
 
     pub next-room : length out ≡ 16
-    next-room = length-is out 16 (neither (badLists e d m) (badLength out 16) (next-rows .0) .1)
+    next-room = length-is out 16 (neither (badLists (length e) (length d) (length m)) (badLength out 16) (next-rows .0) .1)
 
     next-count : (a : Answer) → a ≡ answerOf (stateOf e d m) → r .count ≡ counted (stateOf e d (answerMarks a m))
     next-count (Ask p) h = k .says z .1
@@ -161,11 +161,6 @@ module _ (e d m out : List ℕ) (r : Ruling) (k : Ruled e d m (not (eqb (length 
         rw (sym number-is ∙ z, ← a) (ap₂ (λ (x y : List ℕ). (0, x, y)) p (q ∙ ap (answerBytes (r .answer)) (next-count (r .answer) a)))
 
 -- ---- supply
-else-none : (a b : ℕ) → orElse a b ≡ 0 → a ≡ 0
-unfolding orElse
-else-none zero b e = refl
-else-none (suc a) b e = e
-
 nan-is : (x : Float) → ne x x ≡ isNan x
 nan-is x = go (ne x x) refl
   where
@@ -188,7 +183,7 @@ module _ (e d m : List ℕ) (p : ℕ) (x : Float) (out : List ℕ) (r : Ruling) 
   unfolding supplyNumber supplyRefusal listsNumber nextRefusal badLength
   table =
       let s = stateOf e d m in
-      rw (k .refusal, nan-is x) (rows (badLists e d m || badLength out 4) (isNan x) (missing s) (badMark s) (asksFor (answerOf s) p))
+      rw (k .refusal, nan-is x) (rows (badLists (length e) (length d) (length m) || badLength out 4) (isNan x) (missing s) (badMark s) (asksFor (answerOf s) p))
 
   supply-is : n ≡ supplyNumber e d m p x out
   unfolding orElse
@@ -206,19 +201,19 @@ module _ (e d m : List ℕ) (p : ℕ) (x : Float) (out : List ℕ) (r : Ruling) 
       rw (← supply-is, after-refused n d d' z, after-refused n m (set m p 1) z, after-refused n out new z)
 
   module _ (z : n ≡ 0) where
-    supply-rows : ((badLists e d m || badLength out 4) ≡ false) × (supplyRefusal (stateOf e d m) p x ≡ 0)
+    supply-rows : ((badLists (length e) (length d) (length m) || badLength out 4) ≡ false) × (supplyRefusal (stateOf e d m) p x ≡ 0)
     unfolding supplyNumber
-    supply-rows = no-row (badLists e d m || badLength out 4) 2 (supplyRefusal (stateOf e d m) p x) (sym supply-is ∙ z)
+    supply-rows = no-row (badLists (length e) (length d) (length m) || badLength out 4) 2 (supplyRefusal (stateOf e d m) p x) (sym supply-is ∙ z)
 
-    fits : (badLists e d m ≡ false) × (badLength out 4 ≡ false)
-    fits = neither (badLists e d m) (badLength out 4) (supply-rows .0)
+    fits : (badLists (length e) (length d) (length m) ≡ false) × (badLength out 4 ≡ false)
+    fits = neither (badLists (length e) (length d) (length m)) (badLength out 4) (supply-rows .0)
 
     asked : IsLeast 0 (f32At e) (λ i. getD m i 0) (length m) p
     asked = let c = supply-clean (stateOf e d m) p x (supply-rows .1) in means (stateOf e d m) (c .0) (Ask p) (c .2) .least
 
     supply-count : (d' : List ℕ) → r .count + 1 ≡ counted (stateOf e d' (set m p 1))
     supply-count d' =
-        let c = k .says (else-none (r .refused) _ (sym j ∙ z)) .1 in
+        let c = k .says (else-none (r .refused) _ (sym j ∙ z) .0) .1 in
         omega (arith, count-marked e d m d' (r .count) p 0 1 c (asked .inside) (asked .marked))
 
     pub supply-room : (p < length m) × (4 * p + 4 ≤ length d) × (length out ≡ 4) × (r .count + 1 ≤ mostPlaces)

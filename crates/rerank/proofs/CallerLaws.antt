@@ -8,9 +8,9 @@ use lib.ListN.{length, set, replicate, length-set, length-replicate, getD-replic
 use lib.Seq.{sets, length-sets}
 use lib.Ieee.{ofBits, binary32}
 use Rattle.words.specs.Bytes.{f32At, floatBytes}
-use Rattle.words.specs.Refusals.{after, badLength}
+use Rattle.words.specs.Refusals.{after, badLength, badLists}
 use Rattle.rerank.specs.Rerank.{State, answerOf, supplied, given, counted, Event, asked, supply, gave, done, Accepted, then, Run, tally, anAsk, aSupply}
-use Rattle.rerank.specs.Calls.{stateOf, badLists, answerMarks, nextNumber, nextAnswer, supplyNumber, supplyAnswer}
+use Rattle.rerank.specs.Calls.{stateOf, answerMarks, nextNumber, nextAnswer, supplyNumber, supplyAnswer}
 use Rattle.rerank.specs.Demand.{Lists, Call, next, supplies, fresh, held, call, told, seen, left, numbers, heard, reply, turn, turns, Finishes}
 use Rattle.rerank.specs.declared.Answer.{Answer}
 use Rattle.rerank.specs.declared.Answer.the-variants.{Ask, Give, Done}
@@ -78,13 +78,12 @@ room : List ℕ
 room = replicate 16 0
 
 abbrev Good : Lists → Type 0
-Good b = badLists (b .estimates) (b .distances) (b .marks) ≡ false
+Good b = badLists (length (b .estimates)) (length (b .distances)) (length (b .marks)) ≡ false
 
 abbrev marked : Lists → List ℕ → Lists
 marked b m = record { estimates = b .estimates; distances = b .distances; marks = m }
 
 good-marked : (b : Lists) (p v : ℕ) → Good b → Good (marked b (set (b .marks) p v))
-unfolding badLists
 good-marked b p v g = rw (length-set (b .marks) p v) g
 
 module _ (b : Lists) (g : Good b) (c : Clean (held b)) where
@@ -125,7 +124,7 @@ module _ (b : Lists) (g : Good b) (c : Clean (held b)) (p bits : ℕ) (v : Num (
   supply-is = rw supply-zero (refl, refl)
 
   good-stored : Good (stored b p bits)
-  unfolding badLists badLength stored
+  unfolding stored
   good-stored = rw (length-set (b .marks) p 1, length-sets (b .distances) (4 * p) (floatBytes (ofBits binary32 bits))) g
 
   held-stored : held (stored b p bits) ≡ supplied (held b) p (ofBits binary32 bits)

@@ -5,28 +5,24 @@ use mathlib.Core.List.{List}
 use Prim.Native.Nat.{ℕ, zero, suc, _+_, _*_}
 use native.Mathlib.Nat.{zero-add}
 use native.Mathlib.Omega.{arith}
-use borrow.Author.Tests.{ltb-false, lt-ltb}
+use borrow.Author.Tests.{lt-ltb}
 use lib.Dec.{eqb, leb, ltb}
 use lib.ListN.{length, getD}
 use lib.Ieee.{binary32, nanBits}
 use lib.Ieee.Bits.{nanBits-is}
 use Rattle.words.specs.Bytes.{numAt, f32At}
-use Rattle.words.specs.Limits.{mostPlaces, mostMark}
+use Rattle.words.specs.Limits.{mostMark}
 use Rattle.words.specs.Lists.{anyBelow}
-use Rattle.words.specs.Refusals.{badLength}
+use Rattle.words.specs.Refusals.{badLists}
 use Rattle.words.specs.Sums.{sumTo}
-use Rattle.words.proofs.RefusalLaws.{neither, length-is}
+use Rattle.words.proofs.RefusalLaws.{lists-are}
 use Rattle.scan.specs.Parts.{Sized, lacks, lackAt, aboveMost, ScanTo}
 use Rattle.scan.specs.declared.Scan.{Scan}
 use Rattle.rerank.specs.Rerank.{missingAt, missing, badMark, nextRefusal}
-use Rattle.rerank.specs.Calls.{stateOf, badLists}
+use Rattle.rerank.specs.Calls.{stateOf}
 
-pub sized-of : (e d m : List ℕ) → badLists e d m ≡ false → Sized e d m
-unfolding badLists
-sized-of e d m h =
-    let a = neither (ltb mostPlaces (length m) || badLength e (4 * length m)) (badLength d (4 * length m)) h in
-    let b = neither (ltb mostPlaces (length m)) (badLength e (4 * length m)) (a .0) in
-    record { most = ltb-false mostPlaces (length m) (b .0); estimates = length-is e (4 * length m) (b .1); distances = length-is d (4 * length m) (a .1) }
+pub sized-of : (e d m : List ℕ) → badLists (length e) (length d) (length m) ≡ false → Sized e d m
+sized-of e d m h = let l = lists-are (length e) (length d) (length m) h in record { most = l .0; estimates = l .1; distances = l .2 }
 
 -- ---- the refusal that the scan finds
 any-sum : (p : ℕ → Bool) (f : ℕ → ℕ) (n : ℕ) → ((i : ℕ) → ltb 0 (f i) ≡ p i) → ltb 0 (sumTo n f) ≡ anyBelow n p

@@ -3,14 +3,13 @@ use mathlib.Core.Path.{_≡_, refl, sym, subst}
 use mathlib.Core.Logic.{inl, inr}
 use mathlib.Core.Bool.{Bool, true, false, not, _&&_, _||_, cond}
 use mathlib.Core.Option.{Option, none, some}
-use Prim.Native.Nat.{ℕ, zero, suc, _<_, _≤_}
+use Prim.Native.Nat.{ℕ, _<_, _≤_}
 use native.Mathlib.Omega.{arith}
 use borrow.Author.Tests.{eqb-true, eq-eqb, leb-true, le-leb, not-false}
 use lib.Dec.{eqb, leb}
 use lib.Ieee.{Float, lt, isNan}
 use Rattle.words.specs.Limits.{mostMark}
-use Rattle.words.specs.Lists.{anyBelow}
-use Rattle.words.proofs.ListLaws.{none-at}
+use Rattle.words.proofs.ListLaws.{none-at, none-all}
 use Rattle.words.proofs.RefusalLaws.{no-row, neither, none-bad}
 use Rattle.rerank.specs.Rerank.{State, least, IsLeast, choose, answerOf, asksFor, missingAt, missing, badMark, nextRefusal, supplyRefusal}
 use Rattle.rerank.specs.declared.Answer.{Answer}
@@ -23,11 +22,6 @@ pub record Clean (s : State) : Type 0 where
   pub numbers : (q : ℕ) → q < s .size → Num (s .estimate q)
   pub held : (q : ℕ) → q < s .size → s .mark q ≡ 1 → Num (s .distance q)
   pub bounded : (q : ℕ) → q < s .size → s .mark q ≤ mostMark
-
-pub below-none : (n : ℕ) (f : ℕ → Bool) → ((q : ℕ) → q < n → f q ≡ false) → anyBelow n f ≡ false
-unfolding anyBelow
-below-none zero f h = refl
-below-none (suc n) f h = none-bad (anyBelow n f) (f n) (below-none n f (λ q l. h q (omega arith))) (h n (omega arith))
 
 asked-number : (m : ℕ) (b : Bool) → (eqb m 1 && b) ≡ false → m ≡ 1 → b ≡ false
 asked-number m b e p = subst {A = Bool} (λ (x : Bool). (x && b) ≡ false) (eq-eqb m 1 p) e
@@ -55,14 +49,14 @@ clean-of s m v =
 pub missing-no : (s : State) → Clean s → missing s ≡ false
 unfolding missing missingAt
 missing-no s c =
-    below-none (s .size) (missingAt s)
+    none-all (missingAt s) (s .size)
     (λ q h. none-bad (isNan (s .estimate q)) (eqb (s .mark q) 1 && isNan (s .distance q)) (c .numbers q h)
     (number-asked (eqb (s .mark q) 1) (isNan (s .distance q)) (λ e. c .held q h (eqb-true (s .mark q) 1 e))))
 
 pub badMark-no : (s : State) → Clean s → badMark s ≡ false
 unfolding badMark
 badMark-no s c =
-    below-none (s .size) (λ i. not (leb (s .mark i) mostMark))
+    none-all (λ i. not (leb (s .mark i) mostMark)) (s .size)
     (λ q h. not-true (leb (s .mark q) mostMark) (le-leb (s .mark q) mostMark (c .bounded q h)))
 
 -- next is refused exactly where the state is not clean

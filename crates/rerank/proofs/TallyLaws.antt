@@ -1,7 +1,7 @@
 -- The counts of a run: each candidate is handed out once, a list of n is finished by n supplies and n gives, and the reported count is that of
 -- the places no longer waiting. Assumes nothing.
 use mathlib.Core.Path.{_≡_, refl, sym, subst, ap, _∙_}
-use mathlib.Core.Bool.{Bool, true, false, _||_, cond}
+use mathlib.Core.Bool.{_||_, cond}
 use mathlib.Core.List.{List, [], _∷_, _++_}
 use Prim.Native.Nat.{ℕ, zero, suc, _+_, _*_, _<_, _≤_}
 use native.Mathlib.Decide.{decLt}
@@ -11,7 +11,7 @@ use borrow.Author.Tests.{eq-eqb, ne-eqb}
 use lib.Dec.{eqb}
 use lib.Ieee.{Float}
 use Rattle.words.specs.Sums.{sumTo}
-use Rattle.words.proofs.SumLaws.{sum-ext, sum-const, sum-le}
+use Rattle.words.proofs.SumLaws.{sum-ext, sum-const, sum-le, one-most}
 use Rattle.rerank.specs.Rerank.{State, put, given, supplied, oneOrTwo, counted, Event, asked, supply, gave, done}
 use Rattle.rerank.specs.Rerank.{Accepted, then, ran, Run, tally, aSupply, aGive, supplyOf, giveOf}
 use Rattle.rerank.specs.Demand.{notWaiting}
@@ -155,8 +155,4 @@ counted-is s c = sum-ext (s .size) (λ i. oneOrTwo (s .mark i)) (λ i. notZero (
 
 pub counted-few : (s : State) → counted s ≤ s .size
 unfolding counted
-counted-few s = omega (arith, sum-le 1 (s .size) (λ i. oneOrTwo (s .mark i)) (λ i. few (eqb (s .mark i) 1 || eqb (s .mark i) 2)))
-  where
-    few : (b : Bool) → cond b 1 0 ≤ 1
-    few true = omega arith
-    few false = omega arith
+counted-few s = omega (arith, sum-le 1 (s .size) (λ i. oneOrTwo (s .mark i)) (λ i. one-most (eqb (s .mark i) 1 || eqb (s .mark i) 2)))

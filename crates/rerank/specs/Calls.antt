@@ -1,15 +1,13 @@
 -- What `next` and `supply` answer over lent byte buffers: the whole promise of each is one definition. A place has 4 bytes of the
 -- estimates, 4 of the distances and 1 of the marks.
-use mathlib.Core.Bool.{Bool, _||_, cond}
+use mathlib.Core.Bool.{_||_, cond}
 use mathlib.Core.List.{List, _++_}
 use Prim.Native.Nat.{ℕ, _*_}
-use lib.Dec.{ltb}
 use lib.ListN.{length, getD, set}
 use lib.Seq.{sets}
 use lib.Ieee.{Float, binary32, toBits}
 use Rattle.words.specs.Bytes.{bytesOf, f32At, floatBytes}
-use Rattle.words.specs.Limits.{mostPlaces}
-use Rattle.words.specs.Refusals.{after, badLength}
+use Rattle.words.specs.Refusals.{after, badLength, badLists}
 use Rattle.rerank.specs.Rerank.{State, answerOf, nextRefusal, supplyRefusal, counted}
 use Rattle.rerank.specs.declared.Answer.{Answer}
 use Rattle.rerank.specs.declared.Answer.the-variants.{Ask, Give, Done}
@@ -17,10 +15,6 @@ use Rattle.rerank.specs.declared.Answer.the-variants.{Ask, Give, Done}
 -- the state that the estimates, distances and marks hold
 abbrev pub stateOf : List ℕ → List ℕ → List ℕ → State
 stateOf e d m = record { size = length m; estimate = f32At e; distance = f32At d; mark = λ i. getD m i 0 }
-
--- BAD_LENGTH of the three lists: they have not one number of places, or more than 4,096
-unfoldable pub badLists : List ℕ → List ℕ → List ℕ → Bool
-badLists e d m = ltb mostPlaces (length m) || badLength e (4 * length m) || badLength d (4 * length m)
 
 -- ---- next
 
@@ -51,7 +45,7 @@ unfoldable pub answerBytes : Answer → ℕ → List ℕ
 answerBytes a count = bytesOf 4 (answerNumber a) ++ bytesOf 4 (answerPlace a) ++ bytesOf 4 (answerBits a) ++ bytesOf 4 count
 
 unfoldable pub nextNumber : List ℕ → List ℕ → List ℕ → List ℕ → ℕ
-nextNumber e d m out = cond (badLists e d m || badLength out 16) 3 (nextRefusal (stateOf e d m))
+nextNumber e d m out = cond (badLists (length e) (length d) (length m) || badLength out 16) 3 (nextRefusal (stateOf e d m))
 
 -- the number, the marks and out
 unfoldable pub nextAnswer : List ℕ → List ℕ → List ℕ → List ℕ → ℕ × List ℕ × List ℕ
@@ -64,7 +58,7 @@ nextAnswer e d m out =
 -- ---- supply
 
 unfoldable pub supplyNumber : List ℕ → List ℕ → List ℕ → ℕ → Float → List ℕ → ℕ
-supplyNumber e d m place x out = cond (badLists e d m || badLength out 4) 3 (supplyRefusal (stateOf e d m) place x)
+supplyNumber e d m place x out = cond (badLists (length e) (length d) (length m) || badLength out 4) 3 (supplyRefusal (stateOf e d m) place x)
 
 -- the number, the distances, the marks and out
 unfoldable pub supplyAnswer : List ℕ → List ℕ → List ℕ → ℕ → Float → List ℕ → ℕ × List ℕ × List ℕ × List ℕ

@@ -7,10 +7,11 @@ use lib.Dec.{eqb}
 use lib.ListN.{length, replicate}
 use lib.Ieee.{Float, lt, isNan, ofBits, binary32}
 use Rattle.words.specs.Bytes.{numAt, f32At}
+use Rattle.words.specs.Refusals.{badLists}
 use Rattle.words.specs.Sums.{sumTo}
 use Rattle.rerank.specs.Rerank.{State, answerOf, supplyRefusal, Event, asked, supply, gave, done, ran, Run}
 use Rattle.rerank.specs.Rerank.{tally, anAsk, aSupply, aGive, supplyOf, giveOf}
-use Rattle.rerank.specs.Calls.{stateOf, badLists, nextAnswer, supplyAnswer}
+use Rattle.rerank.specs.Calls.{stateOf, nextAnswer, supplyAnswer}
 use Rattle.rerank.specs.declared.Answer.the-variants.{Ask}
 
 -- the premise: each supplied distance is not below its place's estimate
@@ -162,7 +163,7 @@ pub record Demand : Type 0 where
   pub finished : (n : ℕ) (e d : List ℕ) (cs : List Call) (es : List Event) → let b = fresh n e d in heard b cs ≡ es ++ (done ∷ []) → Finished (held b) es
   -- fresh lists of n places, of the right lengths and with no NaN among the estimates, are finished by 2 n + 1 turns of a caller that has a
   -- distance that is no NaN for every place
-  pub ends : (n : ℕ) (e d : List ℕ) (table : ℕ → ℕ) → let b = fresh n e d in badLists e d (b .marks) ≡ false
+  pub ends : (n : ℕ) (e d : List ℕ) (table : ℕ → ℕ) → let b = fresh n e d in badLists (length e) (length d) (length (b .marks)) ≡ false
       → ((q : ℕ) → q < n → isNan (f32At e q) ≡ false) → ((q : ℕ) → q < n → isNan (ofBits binary32 (table q)) ≡ false)
       → Finishes n b (turns (2 * n + 1) table b)
   -- floats that are no NaN are equal only where their bits are: so what is handed out has the bits that were supplied

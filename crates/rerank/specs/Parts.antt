@@ -5,15 +5,16 @@ use mathlib.Core.List.{List}
 use Prim.Native.Nat.{ℕ}
 use lib.Dec.{ltb}
 use lib.ListN.{length}
+use Rattle.words.specs.Refusals.{badLists}
 use Rattle.scan.specs.Parts.{ScanTo}
 use Rattle.scan.specs.declared.Scan.{Scan}
 use Rattle.rerank.specs.Rerank.{answerOf, nextRefusal, counted}
-use Rattle.rerank.specs.Calls.{stateOf, badLists}
+use Rattle.rerank.specs.Calls.{stateOf}
 use Rattle.rerank.specs.declared.Ruling.{Ruling}
 
 -- what a call that is not refused has found
 pub record Accepting (e d m : List ℕ) (s : Scan) : Type 0 where
-  pub sized : badLists e d m ≡ false
+  pub sized : badLists (length e) (length d) (length m) ≡ false
   pub scanned : ScanTo e d m (length m) s
   pub accepted : nextRefusal (stateOf e d m) ≡ 0
 
@@ -23,7 +24,7 @@ foundNumber nan missing bad = cond nan 4 (cond (ltb 0 missing) 4 (cond (ltb 0 ba
 
 -- the refusals 3 to 5 of a call on the lists: `other` is that `out` is not of its length
 unfoldable pub listsNumber : List ℕ → List ℕ → List ℕ → Bool → Bool → ℕ
-listsNumber e d m other nan = cond (badLists e d m || other) 3 (cond nan 4 (nextRefusal (stateOf e d m)))
+listsNumber e d m other nan = cond (badLists (length e) (length d) (length m) || other) 3 (cond nan 4 (nextRefusal (stateOf e d m)))
 
 -- what a call on the lists is refused with, or the answer and the count
 pub record Ruled (e d m : List ℕ) (other nan : Bool) (r : Ruling) : Type 0 where

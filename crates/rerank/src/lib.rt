@@ -6,9 +6,9 @@ ghost use Prim.Native.Nat.{_+_, _*_, _<_};
 ghost use mathlib.Core.List.{_++_};
 ghost use lib.ListN.{length};
 ghost use Rattle.words.specs.Bytes.{bytesOf, floatBytes};
-ghost use Rattle.words.specs.Refusals.{orElse};
+ghost use Rattle.words.specs.Refusals.{orElse, badLists};
 ghost use Rattle.rerank.specs.Rerank.{answerOf, asksFor};
-ghost use Rattle.rerank.specs.Calls.{stateOf, badLists, nextAnswer, supplyAnswer, answerBytes, answerMarks};
+ghost use Rattle.rerank.specs.Calls.{stateOf, nextAnswer, supplyAnswer, answerBytes, answerMarks};
 ghost use Rattle.rerank.specs.Parts.{Accepting, foundNumber, Ruled};
 use scan::NO_KEY;
 use scan::Scan;
@@ -22,18 +22,11 @@ pub enum Answer {
     Done,
 }
 
-// Whether the lists have not one number of places, or more than 4,096, or another length is wrong.
+// Whether the lists are not of their lengths, or another buffer is not.
 fn bad_lengths(e: &[u8], d: &[u8], m: &[u8], other: bool) -> bool
-    ensures { λ r. ⌜ r ≡ (badLists (now (e .entry)) (now (d .entry)) (now (m .entry)) || other) ⌝ }
+    ensures { λ r. ⌜ r ≡ (badLists (length (now (e .entry))) (length (now (d .entry))) (length (now (m .entry))) || other) ⌝ }
 {
-    let n = m.len();
-    if words::MOST_PLACES < n {
-        return true;
-    }
-    if e.len() != 4 * n {
-        return true;
-    }
-    if d.len() != 4 * n {
+    if words::bad_lists(e.len(), d.len(), m.len()) {
         return true;
     }
     other

@@ -14,7 +14,7 @@ use lib.Ieee.{binary32, nanBits}
 use Rattle.words.specs.Bytes.{numAt}
 use Rattle.words.specs.Limits.{mostMark}
 use Rattle.words.specs.Sums.{sumTo}
-use Rattle.words.proofs.SumLaws.{sum-more, sum-le}
+use Rattle.words.proofs.SumLaws.{sum-more, sum-le, one-most}
 use Rattle.scan.specs.Parts.{keyOf, noKey, keyIf, lesser, keyAt, leastKey, lacks, lackAt, aboveMost, notZero, KeysTo, CountsOf, WithBlock, ScanTo}
 use Rattle.scan.specs.Parts.{FirstAt}
 use Rattle.scan.specs.declared.Keys.{Keys}
@@ -110,13 +110,9 @@ lack-le : (e d m : List ℕ) (i : ℕ) → lackAt e d m i ≤ 2
 unfolding lackAt lacks
 lack-le e d m i = go (nanBits binary32 (numAt 4 e (4 * i))) (eqb (getD m i 0) 1) (nanBits binary32 (numAt 4 d (4 * i)))
   where
-    one : (b : Bool) → cond b 1 0 ≤ 1
-    one true = omega arith
-    one false = omega arith
-
     go : (a b c : Bool) → cond a 1 0 + cond b (cond c 1 0) 0 ≤ 2
-    go a true c = omega (arith, one a, one c)
-    go a false c = omega (arith, one a)
+    go a true c = omega (arith, one-most a, one-most c)
+    go a false c = omega (arith, one-most a)
 
 pub keys-few : (e d m : List ℕ) (i : ℕ) (s : Keys) → KeysTo e d m i s → s .missing ≤ 2 * i
 keys-few e d m i s k = omega (arith, k .missing, sum-le 2 i (lackAt e d m) (lack-le e d m))

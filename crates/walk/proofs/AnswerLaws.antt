@@ -12,16 +12,16 @@ use Rattle.words.specs.Bytes.{bytesOf, wordsOf}
 use Rattle.words.specs.Limits.{mostRecords, mostPlaces}
 use Rattle.words.specs.Lists.{anyBelow}
 use Rattle.words.specs.Metrics.{metricOf}
-use Rattle.words.specs.Refusals.{after, badLength, badForm}
+use Rattle.words.specs.Refusals.{after, badLength, badLists, badForm}
 use Rattle.words.proofs.ListLaws.{any-none}
-use Rattle.words.proofs.RefusalLaws.{length-is, no-row, neither, after-refused, else-first, else-second}
+use Rattle.words.proofs.RefusalLaws.{length-is, lists-are, no-row, neither, after-refused, else-first, else-second}
 use Rattle.words.proofs.WordsLaws.{words-zero}
 use Rattle.sums.specs.Sums.{QueryCodes}
 use Rattle.estimate.specs.declared.Query.{Query}
 use Rattle.estimate.specs.Calls.{queryNumber}
 use Rattle.estimate.proofs.CallLaws.{accepted}
 use Rattle.walk.proofs.WalkLaws.{range-inside}
-use Rattle.walk.specs.Walk.{layoutOf, recordsSize, badRecords, badLists, badLengths, outOfRange, rangeNumber, boundOf, boundWords, walkNumber, walkAnswer}
+use Rattle.walk.specs.Walk.{layoutOf, recordsSize, badRecords, badOuts, badLengths, outOfRange, rangeNumber, boundOf, boundWords, walkNumber, walkAnswer}
 
 -- ---- the range
 
@@ -40,18 +40,18 @@ empty-inside n start end places h =
     rw (le-ltb start end h, le-ltb places (end - start) z) refl
 
 module _ (metric layout dims : ℕ) (v : Query) (qs rs : List ℕ) (n start end : ℕ) (ids bounds marks count : List ℕ) where
-  abbrev pub lists : Bool
-  lists = badLists (length ids) (length bounds) (length marks) (length count)
+  abbrev pub outs : Bool
+  outs = badOuts (length ids) (length bounds) (length marks) (length count)
 
   abbrev pub otherLengths : Bool
-  otherLengths = badLengths layout dims n (length rs) lists
+  otherLengths = badLengths layout dims n (length rs) outs
 
   -- the refusals 1 to 5
   unfoldable pub firstNumber : ℕ
   firstNumber = queryNumber dims otherLengths v qs (badForm metric || badForm layout)
 
   -- as the code's tests give them
-  pub judged : (r : ℕ) (tested : Bool) → tested ≡ lists
+  pub judged : (r : ℕ) (tested : Bool) → tested ≡ outs
       → r ≡ queryNumber dims (badLengths layout dims n (length rs) tested) v qs (badForm metric || badForm layout) → r ≡ firstNumber
   unfolding firstNumber
   judged r tested el e = e ∙ rw el refl
@@ -67,25 +67,23 @@ module _ (metric layout dims : ℕ) (v : Query) (qs rs : List ℕ) (n start end 
     pub count-is : length count ≡ 4
 
   pub known : firstNumber ≡ 0 → Known
-  unfolding firstNumber badLengths badLists badRecords badLength
+  unfolding firstNumber badLengths badOuts badRecords badLength
   known e =
       let a = accepted dims otherLengths v qs (badForm metric || badForm layout) e in
-      let l = neither (ltb mostRecords n || badRecords layout dims n (length rs)) lists (a .others) in
+      let l = neither (ltb mostRecords n || badRecords layout dims n (length rs)) outs (a .others) in
       let r = neither (ltb mostRecords n) (badRecords layout dims n (length rs)) (l .0) in
-      let p3 = neither (ltb mostPlaces (length marks) || badLength ids (4 * length marks) || badLength bounds (4 * length marks)) (badLength count 4)
-      (l .1) in
-      let p2 = neither (ltb mostPlaces (length marks) || badLength ids (4 * length marks)) (badLength bounds (4 * length marks)) (p3 .0) in
-      let p1 = neither (ltb mostPlaces (length marks)) (badLength ids (4 * length marks)) (p2 .0) in
+      let o = neither (badLists (length ids) (length bounds) (length marks)) (badLength count 4) (l .1) in
+      let p = lists-are (length ids) (length bounds) (length marks) (o .0) in
       let f = neither (badForm metric) (badForm layout) (a .formed) in
       let s = ap (λ (x : Bool). not x && badLength rs (recordsSize (layoutOf layout) dims n)) (sym (f .1)) ∙ r .1 in
       record {
         codes = a .codes;
         few = ltb-false _ _ (r .0);
         sized = length-is rs _ s ∙ ap (λ (x : ℕ). recordsSize (layoutOf layout) x n) (sym (a .size));
-        places = ltb-false _ _ (p1 .0);
-        ids-are = length-is ids _ (p1 .1);
-        bounds-are = length-is bounds _ (p2 .1);
-        count-is = length-is count 4 (p3 .1);
+        places = p .0;
+        ids-are = p .1;
+        bounds-are = p .2;
+        count-is = length-is count 4 (o .1);
       }
 
   -- ---- the number

@@ -6,10 +6,10 @@ use lib.ListN.{length, drop, replicate}
 use lib.Dec.{ltb, eqb}
 use lib.Ieee.{Float, isNan}
 use Rattle.words.specs.Bytes.{bytesOf, wordsOf, floatsOf}
-use Rattle.words.specs.Limits.{mostRecords, mostPlaces}
+use Rattle.words.specs.Limits.{mostRecords}
 use Rattle.words.specs.Lists.{anyBelow, recordOf}
 use Rattle.words.specs.Metrics.{metricOf}
-use Rattle.words.specs.Refusals.{after, orElse, badForm}
+use Rattle.words.specs.Refusals.{after, orElse, badLists, badForm}
 use Rattle.words.specs.declared.Metric.{Metric}
 use Rattle.code.specs.Code.{codeSize}
 use Rattle.block.specs.Block.{blockSize}
@@ -50,13 +50,13 @@ rangeLen start end = end - start
 unfoldable pub badRecords : ℕ → ℕ → ℕ → ℕ → Bool
 badRecords layout dims n records = not (badForm layout) && not (eqb records (recordsSize (layoutOf layout) dims n))
 
--- lists of one number of places, not too many, and a count of four bytes
-unfoldable pub badLists : ℕ → ℕ → ℕ → ℕ → Bool
-badLists ids bounds marks count = ltb mostPlaces marks || not (eqb ids (4 * marks)) || not (eqb bounds (4 * marks)) || not (eqb count 4)
+-- the lists, and a count of four bytes
+unfoldable pub badOuts : ℕ → ℕ → ℕ → ℕ → Bool
+badOuts ids bounds marks count = badLists ids bounds marks || not (eqb count 4)
 
 -- too many records, or a buffer that isn't of its length
 unfoldable pub badLengths : ℕ → ℕ → ℕ → ℕ → Bool → Bool
-badLengths layout dims n records lists = ltb mostRecords n || badRecords layout dims n records || lists
+badLengths layout dims n records outs = ltb mostRecords n || badRecords layout dims n records || outs
 
 -- the range is not empty and its end is above the record count
 unfoldable pub outOfRange : ℕ → ℕ → ℕ → Bool
@@ -70,7 +70,7 @@ rangeNumber n start end places = cond (outOfRange n start end) 6 (cond (ltb plac
 unfoldable pub walkNumber : ℕ → ℕ → ℕ → Query → List ℕ → List ℕ → ℕ → ℕ → ℕ → List ℕ → List ℕ → List ℕ → List ℕ → ℕ
 walkNumber metric layout dims v qs rs n start end ids bounds marks count =
     orElse
-    (queryNumber dims (badLengths layout dims n (length rs) (badLists (length ids) (length bounds) (length marks) (length count))) v qs
+    (queryNumber dims (badLengths layout dims n (length rs) (badOuts (length ids) (length bounds) (length marks) (length count))) v qs
     (badForm metric || badForm layout))
     (orElse (rangeNumber n start end (length marks))
     (cond (anyBelow (rangeLen start end) (λ j. isNan (boundOf (layoutOf layout) (metricOf metric) v qs rs (start + j)))) 8 0))

@@ -16,7 +16,7 @@ ghost use Rattle.estimate.specs.Calls.{queryNumber};
 ghost use Rattle.estimate.specs.Parts.{IsReady};
 ghost use Rattle.estimate.specs.Record.{laneWords};
 ghost use Rattle.estimate.specs.declared.Asked.the-variants.{LowerBound};
-ghost use Rattle.walk.specs.Walk.{layoutOf, badRecords, badLists, badLengths, rangeLen, outOfRange, rangeNumber, boundWords, walkAnswer};
+ghost use Rattle.walk.specs.Walk.{layoutOf, badRecords, badOuts, badLengths, rangeLen, outOfRange, rangeNumber, boundWords, walkAnswer};
 ghost use Rattle.walk.specs.Parts.{Range, BlockRange, roomOf};
 use estimate::Asked;
 use estimate::Query;
@@ -45,6 +45,7 @@ use words::OUT_OF_RANGE;
 use words::any_nan;
 use words::bad_dims;
 use words::bad_form;
+use words::bad_lists;
 use words::metric_of;
 use words::put_bytes;
 use words::put_f32;
@@ -293,24 +294,19 @@ fn bad_records(layout: u32, dims: u32, n: u32, records: usize) -> bool
     false
 }
 
-fn bad_lists(ids: usize, bounds: usize, marks: usize, count: usize) -> bool
-    ensures { λ r. ⌜ r ≡ badLists ids bounds marks count ⌝ }
+// Whether a buffer that is written isn't of its length.
+fn bad_outs(ids: usize, bounds: usize, marks: usize, count: usize) -> bool
+    ensures { λ r. ⌜ r ≡ badOuts ids bounds marks count ⌝ }
 {
-    if MOST_PLACES < marks {
-        return true;
-    }
-    if ids != 4 * marks {
-        return true;
-    }
-    if bounds != 4 * marks {
+    if bad_lists(ids, bounds, marks) {
         return true;
     }
     count != 4
 }
 
-fn bad_lengths(layout: u32, dims: u32, n: u32, records: usize, lists: bool) -> bool
+fn bad_lengths(layout: u32, dims: u32, n: u32, records: usize, outs: bool) -> bool
     requires { ⌜ dims ≤ mostDims ⌝ }
-    ensures { λ r. ⌜ r ≡ badLengths layout dims n records lists ⌝ }
+    ensures { λ r. ⌜ r ≡ badLengths layout dims n records outs ⌝ }
 {
     if MOST_RECORDS < n {
         return true;
@@ -318,7 +314,7 @@ fn bad_lengths(layout: u32, dims: u32, n: u32, records: usize, lists: bool) -> b
     if bad_records(layout, dims, n, records) {
         return true;
     }
-    lists
+    outs
 }
 
 fn bad_forms(metric: u32, layout: u32) -> bool
@@ -330,7 +326,7 @@ fn bad_forms(metric: u32, layout: u32) -> bool
     bad_form(layout)
 }
 
-// The refusals 1 to 5; 0 where there is none. lists is that the buffers which are written are not of their lengths.
+// The refusals 1 to 5; 0 where there is none. outs is that the buffers which are written are not of their lengths.
 fn judge(
     metric: u32,
     layout: u32,
@@ -339,14 +335,14 @@ fn judge(
     q: &[u8],
     records: usize,
     n: u32,
-    lists: bool,
+    outs: bool,
 ) -> u32
-    ensures { λ r. ⌜ r ≡ queryNumber dims (badLengths layout dims n records lists) v (now (q .entry)) (badForm metric || badForm layout) ⌝ }
+    ensures { λ r. ⌜ r ≡ queryNumber dims (badLengths layout dims n records outs) v (now (q .entry)) (badForm metric || badForm layout) ⌝ }
 {
     if bad_dims(dims, MOST_DIMS) {
         return BAD_DIMS;
     }
-    let other = bad_lengths(layout, dims, n, records, lists);
+    let other = bad_lengths(layout, dims, n, records, outs);
     query_refusal(dims, other, v, q, bad_forms(metric, layout))
 }
 
@@ -404,8 +400,8 @@ pub fn walk(
         ≡ walkAnswer metric layout dims v (now (q .entry)) (now (records .entry)) n start end
         (now (ids .entry)) (now (bounds .entry)) (now (marks .entry)) (now (count .entry)) ⌝ }
 {
-    let lists = bad_lists(ids.len(), bounds.len(), marks.len(), count.len());
-    let r = judge(metric, layout, dims, v, q, records.len(), n, lists);
+    let outs = bad_outs(ids.len(), bounds.len(), marks.len(), count.len());
+    let r = judge(metric, layout, dims, v, q, records.len(), n, outs);
     if r != ACCEPTED {
         return r;
     }

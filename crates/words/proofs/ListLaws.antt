@@ -14,7 +14,7 @@ use lib.Seq.{getD-append-add, getD-set-same, getD-set-other, getD-take, getD-dro
 use borrow.Author.Count.{below-more}
 use borrow.Author.Tests.{lt-ltb, le-ltb, ltb-true, ltb-false}
 use Rattle.words.specs.Lists.{anyBelow, anyAbove, joined, tabulate, recordOf}
-use Rattle.words.proofs.RefusalLaws.{neither}
+use Rattle.words.proofs.RefusalLaws.{neither, none-bad}
 
 -- ---- some place below n
 
@@ -41,6 +41,12 @@ none-at p (suc n) h i l =
       | inl e ↦ let z : i ≡ n = omega arith in rw z (q .1)
       | inr k ↦ none-at p n (q .0) i (omega arith)
     ]
+
+-- and where it doesn't hold at any, it holds at none
+pub none-all : (p : ℕ → Bool) (n : ℕ) → ((i : ℕ) → i < n → p i ≡ false) → anyBelow n p ≡ false
+unfolding anyBelow
+none-all p zero h = refl
+none-all p (suc n) h = none-bad (anyBelow n p) (p n) (none-all p n (λ i l. h i (omega arith))) (h n (omega arith))
 
 pub any-ext : (p q : ℕ → Bool) (n : ℕ) → ((i : ℕ) → i < n → p i ≡ q i) → anyBelow n p ≡ anyBelow n q
 unfolding anyBelow

@@ -1,15 +1,15 @@
 -- Laws for a table of refusals, `cond test number rest`, and for what a call leaves in its buffer. Assumes nothing.
-use Prim.Native.Nat.{ℕ, zero, suc, _≤_}
+use Prim.Native.Nat.{ℕ, zero, suc, _*_, _≤_}
 use lib.Dec.{eqb, ltb}
 use lib.ListN.{length}
 use borrow.Author.Tests.{ltb-false, eqb-true, eq-eqb, ne-eqb, not-false}
-use mathlib.Core.Bool.{Bool, true, false, _||_, cond}
+use mathlib.Core.Bool.{Bool, true, false, not, _||_, cond}
 use mathlib.Core.List.{List}
 use mathlib.Core.Path.{_≡_, refl, sym}
 use native.Mathlib.Omega.{arith}
 use Rattle.words.specs.Bytes.{bytesOf}
-use Rattle.words.specs.Limits.{mostDims}
-use Rattle.words.specs.Refusals.{after, answer, orElse, badDims, badLength, sizeNumber, sizeAnswer}
+use Rattle.words.specs.Limits.{mostDims, mostPlaces}
+use Rattle.words.specs.Refusals.{after, answer, orElse, badDims, badLength, badLists, sizeNumber, sizeAnswer}
 
 -- ---- tests
 
@@ -50,6 +50,14 @@ pub length-is : (s : List ℕ) (n : ℕ) → badLength s n ≡ false → length 
 unfolding badLength
 length-is s n e = eqb-true (length s) n (not-false _ e)
 
+-- what a test of the lists of candidates tells
+pub lists-are : (a b places : ℕ) → badLists a b places ≡ false → (places ≤ mostPlaces) × (a ≡ 4 * places) × (b ≡ 4 * places)
+unfolding badLists
+lists-are a b places e =
+    let p = neither (ltb mostPlaces places || not (eqb a (4 * places))) (not (eqb b (4 * places))) e in
+    let q = neither (ltb mostPlaces places) (not (eqb a (4 * places))) (p .0) in
+    (ltb-false _ _ (q .0), eqb-true _ _ (not-false _ (q .1)), eqb-true _ _ (not-false _ (p .1)))
+
 -- ---- numbers
 
 pub else-first : (a b : ℕ) → (a ≡ 0 → ⊥) → orElse a b ≡ a
@@ -60,6 +68,12 @@ else-first (suc a) b h = refl
 pub else-second : (a b : ℕ) → a ≡ 0 → orElse a b ≡ b
 unfolding orElse
 else-second a b e = rw e refl
+
+-- where there is no refusal, neither has one
+pub else-none : (a b : ℕ) → orElse a b ≡ 0 → (a ≡ 0) × (b ≡ 0)
+unfolding orElse
+else-none zero b e = (refl, e)
+else-none (suc a) b e = absurd (omega arith)
 
 -- ---- buffers
 

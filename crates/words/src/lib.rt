@@ -10,7 +10,7 @@ ghost use Rattle.words.specs.Bytes.{numAt, bytesOf, f32At, floatBytes};
 ghost use Rattle.words.specs.Floats.{missing, anyNan};
 ghost use Rattle.words.specs.Lists.{anyBelow, anyAbove};
 ghost use Rattle.words.specs.Metrics.{metricOf};
-ghost use Rattle.words.specs.Refusals.{answer, badDims, badLength, badForm};
+ghost use Rattle.words.specs.Refusals.{answer, badDims, badLength, badLists, badForm};
 
 // The paper's refusal numbers, as a call returns them.
 pub const ACCEPTED: u32 = 0;
@@ -63,7 +63,7 @@ pub fn metric_of(n: u32) -> Metric
     if n == 1 { Metric::L2 } else { Metric::Dot }
 }
 
-// Whether one of two buffers isn't of its length: of the length a where n is asked for, or b where m is.
+// Whether one of two buffers isn't of its length: a where n is asked for, b where m is.
 pub fn bad_lengths(a: usize, n: usize, b: usize, m: usize) -> bool
     ensures { λ r. ⌜ r ≡ (not (eqb a n) || not (eqb b m)) ⌝ }
 {
@@ -71,6 +71,17 @@ pub fn bad_lengths(a: usize, n: usize, b: usize, m: usize) -> bool
         return true;
     }
     b != m
+}
+
+// Whether lists of candidates have not one number of places, or more than the most. a and b are of four bytes for each place. The
+// places are tested first, so that four times them is no overflow.
+pub fn bad_lists(a: usize, b: usize, places: usize) -> bool
+    ensures { λ r. ⌜ r ≡ badLists a b places ⌝ }
+{
+    if MOST_PLACES < places {
+        return true;
+    }
+    bad_lengths(a, 4 * places, b, 4 * places)
 }
 
 // Whether n is no metric's number, and no layout's: neither 1 nor 2.

@@ -1,12 +1,12 @@
 -- `rerank::choose` meets its contract. Assumes nothing.
 use native.Mathlib.Omega.{arith}
+use Rattle.words.proofs.RefusalLaws.{lists-are}
 use Rattle.rerank.proofs.ChoiceLaws.{ask-small, says-ask, says-done, give-small, give-room, says-give}
-use Rattle.rerank.proofs.FoundLaws.{sized-of}
 use Rattle.rerank.proofs.choose.Statement.{statement}
 use Rattle.rerank.proofs.choose.Tie as tie
 
 first-at-requires : tie.Need-first-at-requires
-first-at-requires c κs = sized-of _ _ _ (c .before .before .before .before .before .before .pre .sized) .estimates
+first-at-requires c κs = lists-are _ _ _ (c .before .before .before .before .before .before .pre .sized) .1
 
 cast-t9 : tie.Need-cast-t9
 cast-t9 c = omega (arith, ask-small _ _ _ _ (c .before .before .before .before .before .before .before .pre) _ (c .before .if1 .taken) (c .first-at .ensures))
@@ -18,7 +18,7 @@ returns-2 : tie.Need-returns-2
 returns-2 c = says-done _ _ _ _ (c .before .before .before .before .before .before .before .before .pre) (c .before .before .if1 .left) (c .if2 .taken)
 
 first-at-requires-2 : tie.Need-first-at-requires-2
-first-at-requires-2 c κs = sized-of _ _ _ (c .before .before .before .before .before .before .before .before .pre .sized) .distances
+first-at-requires-2 c κs = lists-are _ _ _ (c .before .before .before .before .before .before .before .before .pre .sized) .2
 
 cast-t10 : tie.Need-cast-t10
 cast-t10 c =

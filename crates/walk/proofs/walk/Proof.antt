@@ -17,7 +17,7 @@ use Rattle.walk.proofs.walk.Tie as tie
 number : (c : tie.After-judge) → let a = c .before .before .before .before .before .before .before .before .args in
     c .judge .result ≡ firstNumber (a .metric) (a .layout) (a .dims) (a .v) (a .q .now) (a .records .now) (a .n) (a .start) (a .end)
     (a .ids .now) (a .bounds .now) (a .marks .now) (a .count .now)
-number c = judged _ _ _ _ _ _ _ _ _ _ _ _ _ _ _ (c .before .bad-lists .ensures) (c .judge .ensures)
+number c = judged _ _ _ _ _ _ _ _ _ _ _ _ _ _ _ (c .before .bad-outs .ensures) (c .judge .ensures)
 
 accepts : (c : tie.Else1) →
     let e9 = c .before .before .before .before .before .before .before .before .before in
@@ -57,8 +57,8 @@ none c =
     c .any-nan .ensures ∙ ap (λ (x : ℕ). anyNan x bs) (e8 .range-len .ensures)
     ∙ nans-back _ _ _ _ _ _ _ _ (filled (c .before))
 
-bad-lists-requires : tie.Need-bad-lists-requires
-bad-lists-requires c κs = search needs
+bad-outs-requires : tie.Need-bad-outs-requires
+bad-outs-requires c κs = search needs
 
 judge-requires : tie.Need-judge-requires
 judge-requires c κs = search needs
@@ -180,7 +180,7 @@ pub walk-spec : {M : Type 1} → statement M
 walk-spec =
     tie.close
     (tie.spec
-    bad-lists-requires
+    bad-outs-requires
     judge-requires
     returns
     range-refusal-requires

@@ -17,7 +17,7 @@ use Rattle.sums.specs.Sums.{plainSum, nibbleBit, groupSum, QueryCodes}
 use Rattle.sums.specs.Parts.{groupsSum, Each, LaneSums}
 use Rattle.sums.proofs.PlainLaws.{plain-ext, plain-le}
 use Rattle.sums.proofs.GroupLaws.{picks, group-four, groups-plain, lane-bits}
-use Rattle.lanes.specs.Parts.{Wide, Sixteen, Lanes}
+use Rattle.lanes.specs.Parts.{Wide, Sixteen, Lanes, stretchGroups}
 
 -- ---- one group
 
@@ -113,7 +113,7 @@ module _ (qs block : List ℕ) (at g a n : ℕ) {acc part : List ℕ} (held : Si
   sixteen-add : (j : ℕ) → j < 16 → getD acc j 0 + getD part j 0 ≡ groupsSum qs (laneNibble block (j + at)) g (a + n)
   sixteen-add j l = groups-add qs (laneNibble block (j + at)) g a n (held .each j l) (more .each j l)
 
-  pub sixteen-fit : QueryCodes qs → a + n ≤ 1024 → (j : ℕ) → j < 16 → getD acc j 0 + getD part j 0 < 65536
+  pub sixteen-fit : QueryCodes qs → a + n ≤ stretchGroups → (j : ℕ) → j < 16 → getD acc j 0 + getD part j 0 < 65536
   sixteen-fit q h j l = omega (arith, sixteen-add j l, groups-le qs (laneNibble block (j + at)) q g (a + n))
 
   pub sixteen-more : (acc′ : List ℕ) → length acc′ ≡ 16 → ((j : ℕ) → j < 16 → getD acc′ j 0 ≡ getD acc j 0 + getD part j 0)

@@ -7,6 +7,10 @@ use Rattle.block.specs.Block.{blockGroups, blockSize, laneNibble}
 use Rattle.sums.specs.Sums.{QueryCodes}
 use Rattle.sums.specs.Parts.{groupsSum, Each}
 
+-- the groups of a stretch, which are added as numbers of 16 bits
+abbrev pub stretchGroups : ℕ
+stretchGroups = 1024
+
 -- the wide table: each query code 16 times, and 0 past the last, in a buffer that may be longer
 pub record Wide (qs t : List ℕ) : Type 0 where
   pub room : 64 * blockGroups (length qs) ≤ length t

@@ -9,7 +9,7 @@ ghost use Rattle.words.specs.Limits.{mostDims, topCode, mostSum};
 ghost use Rattle.block.specs.Block.{laneNibble, blockGroups, blockSize};
 ghost use Rattle.sums.specs.Sums.{groupSum, QueryCodes};
 ghost use Rattle.sums.specs.Parts.{Each, LaneSums};
-ghost use Rattle.lanes.specs.Parts.{Wide, BlockReady, Sixteen, Lanes};
+ghost use Rattle.lanes.specs.Parts.{Wide, BlockReady, Sixteen, Lanes, stretchGroups};
 use words::MOST_DIMS;
 use words::byte_at;
 use words::put_u32;
@@ -130,7 +130,7 @@ fn put(out: &mut [u16], at: usize, acc: &[u16])
 
 // What the lanes pick in the m groups from g on.
 fn stretch(q: &[u8], t: &[u8], block: &[u8], g: usize, m: usize, out: &mut [u16])
-    requires { ⌜ (m ≤ 1024) × (g + m ≤ blockGroups (length (now q))) × BlockReady (now q) (now t) (now block) × (length (now out) ≡ 32) ⌝ }
+    requires { ⌜ (m ≤ stretchGroups) × (g + m ≤ blockGroups (length (now q))) × BlockReady (now q) (now t) (now block) × (length (now out) ≡ 32) ⌝ }
     ensures { λ _. ⌜ Lanes (now (q .entry)) (now (block .entry)) g m (now (out .exit)) ⌝ }
 {
     let mut low = [0u16; 16];

@@ -15,6 +15,13 @@ use scan::Scan;
 use scan::first_at;
 use scan::scan_lists;
 
+// The answers' numbers in next's out.
+pub const DONE: u32 = 0;
+
+pub const ASK: u32 = 1;
+
+pub const GIVE: u32 = 2;
+
 // What the rule says to do next: ask for a place's distance, hand a place out, or nothing.
 pub enum Answer {
     Ask(u32),
@@ -39,13 +46,13 @@ fn choose(e: &[u8], d: &[u8], m: &[u8], s: Scan) -> Answer
 {
     let keys = s.keys;
     if keys.waiting < keys.asked {
-        let w = first_at(e, m, 0, keys.waiting, s.waits_from);
+        let w = first_at(e, m, words::WAITING, keys.waiting, s.waits_from);
         return Answer::Ask(w as u32);
     }
     if keys.asked == NO_KEY {
         return Answer::Done;
     }
-    let a = first_at(d, m, 1, keys.asked, s.asked_from);
+    let a = first_at(d, m, words::ASKED, keys.asked, s.asked_from);
     Answer::Give(a as u32, words::f32_at(d, a))
 }
 
@@ -112,7 +119,7 @@ fn mark_given(m: &mut [u8], a: Answer)
         Answer::Give(p, _) => {
             let at = p as usize;
             if at < m.len() {
-                m[at] = 2;
+                m[at] = words::GIVEN;
             }
         }
         Answer::Done => {}
@@ -135,9 +142,9 @@ fn put_answer(out: &mut [u8], a: Answer, count: u32)
     ensures { λ _. ⌜ now (out .exit) ≡ answerBytes a count ⌝ }
 {
     match a {
-        Answer::Ask(p) => put_four(out, 1, p, 0.0, count),
-        Answer::Give(p, d) => put_four(out, 2, p, d, count),
-        Answer::Done => put_four(out, 0, 0, 0.0, count),
+        Answer::Ask(p) => put_four(out, ASK, p, 0.0, count),
+        Answer::Give(p, d) => put_four(out, GIVE, p, d, count),
+        Answer::Done => put_four(out, DONE, 0, 0.0, count),
     }
 }
 
@@ -205,7 +212,7 @@ pub fn supply(
     }
     let at = place as usize;
     words::put_f32(distances, 4 * at, distance);
-    marks[at] = 1;
+    marks[at] = words::ASKED;
     words::put_number(out, r.count + 1);
     words::ACCEPTED
 }

@@ -29,12 +29,12 @@ fn turn(est: &[u8], dis: &mut [u8], marks: &mut [u8], table: &[f32]) -> bool {
     }
     let p = words::u32_at(&out, 4);
     match words::u32_at(&out, 0) {
-        1 => {
+        rerank::ASK => {
             say(b"Ask ", p);
             answer_ask(est, dis, marks, p, table);
             true
         }
-        2 => {
+        rerank::GIVE => {
             say(b"Give ", p);
             true
         }

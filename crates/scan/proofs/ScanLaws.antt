@@ -15,7 +15,7 @@ use Rattle.words.specs.Bytes.{numAt}
 use Rattle.words.specs.Limits.{mostMark}
 use Rattle.words.specs.Sums.{sumTo}
 use Rattle.words.proofs.SumLaws.{sum-more, sum-le, one-most}
-use Rattle.scan.specs.Parts.{keyOf, noKey, keyIf, lesser, keyAt, leastKey, lacks, lackAt, aboveMost, notZero, KeysTo, CountsOf, WithBlock, ScanTo}
+use Rattle.scan.specs.Parts.{keyOf, noKey, keyIf, lesser, keyAt, leastKey, lacks, lackAt, aboveMost, notZero, KeysTo, CountsOf, WithStretch, ScanTo}
 use Rattle.scan.specs.Parts.{FirstAt}
 use Rattle.scan.specs.declared.Keys.{Keys}
 use Rattle.scan.specs.declared.Counts.{Counts}
@@ -34,7 +34,7 @@ pub key-at : (k : ℕ) (s m : List ℕ) (i u v : ℕ) → u ≡ numAt 4 s (4 * i
 unfolding keyAt
 key-at k s m i u v p q = rw p at q
 
--- ---- the marks of a block
+-- ---- the marks of a stretch
 counts-none : (m : List ℕ) (from : ℕ) → CountsOf m from from 0 0
 counts-none m from = record { bad-is = omega arith; count-is = omega arith; few-bad = omega arith; few = omega arith }
 
@@ -131,7 +131,7 @@ keys-more e d m i x u v s r k a b c h =
     here : lacks x u v ≡ lackAt e d m i
     here = rw (a, b, c)
 
--- ---- one block more
+-- ---- one stretch more
 pub scan-none : (e d m : List ℕ) (s : Scan) → s .bad ≡ 0 → s .count ≡ 0 → s .keys .missing ≡ 0 → s .keys .waiting ≡ noKey → s .keys .asked ≡ noKey
     → s .«waits_from» ≡ 0 → s .«asked_from» ≡ 0 → ScanTo e d m 0 s
 unfolding sumTo
@@ -157,7 +157,7 @@ scan-few e d m i s k = (
   rw (k .count) (sum-few (λ j. notZero (getD m j 0)) i (λ j. one-or-none (eqb (getD m j 0) 0))),
 )
 
--- no place before the block of the least key has it
+-- no place before the stretch of the least key has it
 from-more : (g : ℕ → ℕ) (i to from old new : ℕ) → i ≤ to → old ≡ leastKey i g → new ≡ leastKey to g → ((q : ℕ) → q < from → old < g q)
     → (q : ℕ) → q < cond (ltb new old) i from → new < g q
 from-more g i to from old new h p r f q = go (ltb new old) refl
@@ -167,7 +167,7 @@ from-more g i to from old new h p r f q = go (ltb new old) refl
     go false e l = omega (arith, f q l, key-falls g i to h)
 
 pub scan-more : (e d m : List ℕ) (i to : ℕ) (s r : Scan) (c : Counts) (keys : Keys) → i ≤ to → ScanTo e d m i s
-    → CountsOf m i to (c .bad) (c .count) → KeysTo e d m to keys → WithBlock s c keys i r → ScanTo e d m to r
+    → CountsOf m i to (c .bad) (c .count) → KeysTo e d m to keys → WithStretch s c keys i r → ScanTo e d m to r
 scan-more e d m i to s r c keys h a b k w =
     record {
       keys = rw (w .same-keys) k;

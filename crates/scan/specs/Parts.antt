@@ -13,6 +13,10 @@ use Rattle.scan.specs.declared.Keys.{Keys}
 use Rattle.scan.specs.declared.Counts.{Counts}
 use Rattle.scan.specs.declared.Scan.{Scan}
 
+-- the places of a stretch, which are counted in bytes
+abbrev pub stretchPlaces : ℕ
+stretchPlaces = 128
+
 -- lists of the right lengths
 pub record Sized (e d m : List ℕ) : Type 0 where
   pub most : length m ≤ mostPlaces
@@ -80,8 +84,8 @@ pub record ScanTo (e d m : List ℕ) (i : ℕ) (s : Scan) : Type 0 where
   pub waits-from : (q : ℕ) → q < s .«waits_from» → s .keys .waiting < keyAt 0 e m q
   pub asked-from : (q : ℕ) → q < s .«asked_from» → s .keys .asked < keyAt 1 d m q
 
--- a scan s with the counts and keys of a block that starts at `from`
-pub record WithBlock (s : Scan) (c : Counts) (keys : Keys) (from : ℕ) (r : Scan) : Type 0 where
+-- a scan s with the counts and keys of a stretch that starts at `from`
+pub record WithStretch (s : Scan) (c : Counts) (keys : Keys) (from : ℕ) (r : Scan) : Type 0 where
   pub same-keys : r .keys ≡ keys
   pub bad : r .bad ≡ s .bad + c .bad
   pub count : r .count ≡ s .count + c .count

@@ -2,15 +2,18 @@
 // places do not wait, and the least estimate of a waiting place and distance of an asked one, as keys.
 ghost use mathlib.Core.Path.{_≡_};
 ghost use mathlib.Core.Bool.{cond};
-ghost use Prim.Native.Nat.{_+_, _*_, _<_, _≤_};
+ghost use Prim.Native.Nat.{_+_, _*_, _<_, _≤_, min};
 ghost use lib.Dec.{eqb, ltb};
 ghost use lib.ListN.{length};
 ghost use Rattle.words.specs.Limits.{mostPlaces};
 ghost use Rattle.scan.specs.Parts.{keyOf, keyIf, lesser, keyAt, nanOne, lacks, aboveMost, notZero};
-ghost use Rattle.scan.specs.Parts.{Sized, KeysTo, CountsOf, WithBlock, ScanTo, FirstAt};
+ghost use Rattle.scan.specs.Parts.{Sized, KeysTo, CountsOf, WithStretch, ScanTo, FirstAt, stretchPlaces};
 
 // Above every key of a number.
 pub const NO_KEY: u32 = 0xFFFF_FFFF;
+
+// The places of a stretch: so few that their counts fit a byte.
+const STRETCH: usize = 128;
 
 // A number for a float's bits, in the order of the floats.
 fn key(u: u32) -> u32
@@ -55,9 +58,9 @@ fn one_more(s: Keys, m: u8, e: u32, d: u32) -> Keys
     ensures waiting { λ r. ⌜ r .waiting ≡ lesser (s .waiting) (keyIf (eqb m 0) e) ⌝ }
     ensures asked { λ r. ⌜ r .asked ≡ lesser (s .asked) (keyIf (eqb m 1) d) ⌝ }
 {
-    let waiting = least_of(s.waiting, key_if(m == 0, e));
-    let asked = least_of(s.asked, key_if(m == 1, d));
-    let missing = s.missing + words::nan_one(e) + nan_if(m == 1, d);
+    let waiting = least_of(s.waiting, key_if(m == words::WAITING, e));
+    let asked = least_of(s.asked, key_if(m == words::ASKED, d));
+    let missing = s.missing + words::nan_one(e) + nan_if(m == words::ASKED, d);
     Keys {
         missing: missing,
         waiting: waiting,
@@ -101,7 +104,7 @@ struct Counts {
 
 // The marks from `from` up to `to`, counted in bytes: so the loop goes by vectors of 16.
 fn count_marks(m: &[u8], from: usize, to: usize) -> Counts
-    requires { ⌜ (from ≤ to) × (to ≤ from + 128) × (to ≤ length (now m)) ⌝ }
+    requires { ⌜ (from ≤ to) × (to ≤ from + stretchPlaces) × (to ≤ length (now m)) ⌝ }
     ensures { λ r. ⌜ CountsOf (now (m .entry)) from to (r .bad) (r .count) ⌝ }
 {
     let mut bad = 0u8;
@@ -118,7 +121,7 @@ fn count_marks(m: &[u8], from: usize, to: usize) -> Counts
     }
 }
 
-// What one pass over the lists finds. The least keys stand in the blocks that start at `waits_from` and `asked_from`.
+// What one pass over the lists finds. The least keys stand in the stretches that start at `waits_from` and `asked_from`.
 pub struct Scan {
     pub bad: u32,
     pub count: u32,
@@ -127,33 +130,37 @@ pub struct Scan {
     pub asked_from: usize,
 }
 
-// The end of the block that starts at `from`: 128 places, so that its counts fit a byte.
-fn block_end(from: usize, n: usize) -> usize
+// The end of the stretch that starts at `from`.
+fn stretch_end(from: usize, n: usize) -> usize
     requires { ⌜ from < n ⌝ }
-    ensures { λ r. ⌜ (from < r) × (r ≤ n) × (r ≤ from + 128) ⌝ }
+    ensures { λ r. ⌜ r ≡ min n (from + stretchPlaces) ⌝ }
 {
-    if n - from <= 128 { n } else { from + 128 }
+    if n - from <= STRETCH {
+        n
+    } else {
+        from + STRETCH
+    }
 }
 
-// The block that the least key stands in: this one only where it has a lesser key.
-fn block_of(old: u32, new: u32, before: usize, from: usize) -> usize
+// The stretch that the least key stands in: this one only where it has a lesser key.
+fn stretch_of(old: u32, new: u32, before: usize, from: usize) -> usize
     ensures { λ r. ⌜ r ≡ cond (ltb new old) from before ⌝ }
 {
     if new < old { from } else { before }
 }
 
-// The scan with one block more, which starts at `from`.
-fn add_block(s: Scan, c: Counts, keys: Keys, from: usize) -> Scan
+// The scan with one stretch more, which starts at `from`.
+fn add_stretch(s: Scan, c: Counts, keys: Keys, from: usize) -> Scan
     requires { ⌜ (s .bad + c .bad ≤ mostPlaces) × (s .count + c .count ≤ mostPlaces) ⌝ }
-    ensures { λ r. ⌜ WithBlock s c keys from r ⌝ }
+    ensures { λ r. ⌜ WithStretch s c keys from r ⌝ }
 {
     let old = s.keys;
     Scan {
         bad: s.bad + words::wide(c.bad),
         count: s.count + words::wide(c.count),
         keys: keys,
-        waits_from: block_of(old.waiting, keys.waiting, s.waits_from, from),
-        asked_from: block_of(old.asked, keys.asked, s.asked_from, from),
+        waits_from: stretch_of(old.waiting, keys.waiting, s.waits_from, from),
+        asked_from: stretch_of(old.asked, keys.asked, s.asked_from, from),
     }
 }
 
@@ -176,10 +183,10 @@ pub fn scan_lists(e: &[u8], d: &[u8], m: &[u8]) -> Scan
     };
     let mut i = 0usize;
     while i < n {
-        let to = block_end(i, n);
+        let to = stretch_end(i, n);
         let counts = count_marks(m, i, to);
         let keys = add_keys(s.keys, e, d, m, i, to);
-        s = add_block(s, counts, keys, i);
+        s = add_stretch(s, counts, keys, i);
         i = to;
     }
     s

@@ -15,8 +15,10 @@ pub const DAMAGED: u8 = 3;
 
 pub const TOO_LONG: u8 = 4;
 
-// The characters of the longest buffer: 40,000 bytes of two digits each between brackets.
-const MOST_CHARACTERS: u64 = 80002;
+// The bytes of the longest buffer, and its characters: two digits for each byte, between brackets.
+const MOST_BYTES: usize = 40000;
+
+const MOST_CHARACTERS: u64 = 2 * (MOST_BYTES as u64) + 2;
 
 // The kinds of a part, by its first byte.
 const A_NUMBER: u8 = 1;
@@ -195,7 +197,7 @@ fn left_as_wanted(line: &[u8], s: calls::Shape, i: u8, got: &[u8]) -> bool {
     if at < s.buffers as usize {
         return true;
     }
-    let mut want = [0u8; 40000];
+    let mut want = [0u8; MOST_BYTES];
     let n = buffer(line, at, &mut want);
     check::same(&want[..n], got)
 }
@@ -283,16 +285,16 @@ fn with_four(
     b2: &mut [u8],
     b3: &mut [u8],
 ) -> u8 {
-    let mut b4 = [0u8; 40000];
-    let mut b5 = [0u8; 40000];
+    let mut b4 = [0u8; MOST_BYTES];
+    let mut b5 = [0u8; MOST_BYTES];
     let n4 = buffer(line, 4, &mut b4);
     let n5 = buffer(line, 5, &mut b5);
     with_six(which, line, s, b0, b1, b2, b3, &mut b4[..n4], &mut b5[..n5])
 }
 
 fn with_two(which: usize, line: &[u8], s: calls::Shape, b0: &mut [u8], b1: &mut [u8]) -> u8 {
-    let mut b2 = [0u8; 40000];
-    let mut b3 = [0u8; 40000];
+    let mut b2 = [0u8; MOST_BYTES];
+    let mut b3 = [0u8; MOST_BYTES];
     let n2 = buffer(line, 2, &mut b2);
     let n3 = buffer(line, 3, &mut b3);
     with_four(which, line, s, b0, b1, &mut b2[..n2], &mut b3[..n3])
@@ -300,8 +302,8 @@ fn with_two(which: usize, line: &[u8], s: calls::Shape, b0: &mut [u8], b1: &mut 
 
 // The buffers are read two by two, and the line's call is made and compared.
 fn with_none(which: usize, line: &[u8], s: calls::Shape) -> u8 {
-    let mut b0 = [0u8; 40000];
-    let mut b1 = [0u8; 40000];
+    let mut b0 = [0u8; MOST_BYTES];
+    let mut b1 = [0u8; MOST_BYTES];
     let n0 = buffer(line, 0, &mut b0);
     let n1 = buffer(line, 1, &mut b1);
     with_two(which, line, s, &mut b0[..n0], &mut b1[..n1])

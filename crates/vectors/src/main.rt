@@ -102,10 +102,10 @@ fn print_tallies(names: &[u8], seen: &[u64], agreed: &[u64]) {
 }
 
 // Room for the list. The contract gives the length alone, so that no proof writes out the zeros.
-fn room() -> [u8; 262144]
+fn room() -> [u8; MOST_TEXT]
     ensures { λ r. ⌜ 262144 ≡ length r ⌝ }
 {
-    [0; 262144]
+    [0; MOST_TEXT]
 }
 
 fn read_and_replay(fd: i32, names: &[u8]) {

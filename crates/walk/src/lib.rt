@@ -42,6 +42,7 @@ use words::Metric;
 use words::NO_ESTIMATE;
 use words::NO_ROOM;
 use words::OUT_OF_RANGE;
+use words::WAITING;
 use words::any_nan;
 use words::bad_dims;
 use words::bad_form;
@@ -244,7 +245,7 @@ fn put_marks(marks: &mut [u8], c: usize)
 {
     let mut i = 0usize;
     while i < c {
-        marks[i] = 0;
+        marks[i] = WAITING;
         i += 1;
     }
 }

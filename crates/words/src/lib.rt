@@ -44,7 +44,14 @@ pub const MOST_RECORDS: u32 = 1048576;
 
 pub const MOST_PLACES: usize = 4096;
 
-pub const MOST_MARK: u8 = 2;
+pub const MOST_MARK: u8 = GIVEN;
+
+// The marks of a candidate.
+pub const WAITING: u8 = 0;
+
+pub const ASKED: u8 = 1;
+
+pub const GIVEN: u8 = 2;
 
 // The bits of an infinity, and the least of a NaN, their sign dropped.
 const INFINITY: u32 = 0x7F80_0000;

@@ -18,8 +18,8 @@ abbrev μ-loop : tie.MeasureT-loop
 loop-holds : tie.Need-loop-holds Inv-loop μ-loop
 loop-holds c = (refl, omega arith, scan-none _ _ _ _ refl refl refl refl refl refl refl)
 
-block-end-requires : tie.Need-block-end-requires Inv-loop μ-loop
-block-end-requires c κs = search needs
+stretch-end-requires : tie.Need-stretch-end-requires Inv-loop μ-loop
+stretch-end-requires c κs = search needs
 
 count-marks-requires : tie.Need-count-marks-requires Inv-loop μ-loop
 count-marks-requires c κs = search needs
@@ -30,8 +30,8 @@ add-keys-requires c κs =
     let loop = c .before .before .before .loop .inv in
     (pre, ((omega arith, omega arith), loop .2 .keys))
 
-add-block-requires : tie.Need-add-block-requires Inv-loop μ-loop
-add-block-requires c κs =
+add-stretch-requires : tie.Need-add-stretch-requires Inv-loop μ-loop
+add-stretch-requires c κs =
     let z = c .before .before .before .before .before .before .before .before .pre in
     let k = c .before .count-marks .ensures in
     omega (arith, scan-few _ _ _ _ _ (c .before .before .before .before .loop .inv .2))
@@ -44,7 +44,7 @@ loop-again c =
     let loop = c .before .before .before .before .before .loop .inv in
     let countm = c .before .before .count-marks .ensures in
     let addk = c .before .add-keys .ensures in
-    (refl, omega arith, scan-more _ _ _ _ _ _ _ _ _ (omega arith) (loop .2) countm addk (c .add-block .ensures))
+    (refl, omega arith, scan-more _ _ _ _ _ _ _ _ _ (omega arith) (loop .2) countm addk (c .add-stretch .ensures))
 
 returns : tie.Need-returns Inv-loop μ-loop
 returns c =
@@ -58,10 +58,10 @@ scan-lists-spec =
     Inv-loop
     μ-loop
     loop-holds
-    block-end-requires
+    stretch-end-requires
     count-marks-requires
     add-keys-requires
-    add-block-requires
+    add-stretch-requires
     loop-less
     loop-again
     returns)

@@ -3,7 +3,7 @@ use mathlib.Core.Path.{_≡_, refl}
 use Prim.Native.Nat.{_-_, _≤_, zero-le}
 use native.Mathlib.Omega.{arith}
 use lib.ListN.{length}
-use Rattle.lanes.specs.Parts.{Lanes}
+use Rattle.lanes.specs.Parts.{Lanes, stretchGroups}
 use Rattle.lanes.proofs.LaneLaws.{lanes-none, lanes-fit, lanes-more, lanes-plain}
 use borrow.Author.Needs.{needs}
 use Rattle.lanes.proofs.parts.lane_sums.Statement.{statement}
@@ -44,7 +44,7 @@ gather-requires c κs =
     let a = c10 .args in
     let v = c6 .loop .inv .1 in
     let e = c3 .stretch .ensures in
-    (v .long, e .long, lanes-fit (a .q .now) (a .block .now) (c6 .loop .g) 1024 v e (c10 .pre .query))
+    (v .long, e .long, lanes-fit (a .q .now) (a .block .now) (c6 .loop .g) stretchGroups v e (c10 .pre .query))
 
 add-g : tie.Need-add-g Inv-loop μ-loop
 add-g c = search needs
@@ -59,7 +59,7 @@ loop-again c =
     let c11 = c7 .before .before .before .before in
     let a = c11 .args in
     let e = c4 .stretch .ensures in
-    (omega arith, lanes-more (a .q .now) (a .block .now) (c7 .loop .g) 1024 (c7 .loop .inv .1) e (c .gather .ensures), e .long)
+    (omega arith, lanes-more (a .q .now) (a .block .now) (c7 .loop .g) stretchGroups (c7 .loop .inv .1) e (c .gather .ensures), e .long)
 
 sub-stretch : tie.Need-sub-stretch Inv-loop μ-loop
 sub-stretch c = search needs

@@ -1,5 +1,5 @@
 // Numbers as text: a decimal number read, and a float printed.
-ghost use Prim.Native.Nat.{_+_, _*_, _^_, _<_, _≤_};
+ghost use Prim.Native.Nat.{_+_, _-_, _*_, _^_, _<_, _≤_};
 ghost use mathlib.Core.Path.{_≡_};
 
 pub enum Number {
@@ -14,7 +14,7 @@ pub fn put(s: &[u8]) {
 // The value so far with one digit more. Nine digits stay below 2^32.
 fn with_digit(n: u32, c: u8) -> u32
     requires { ⌜ (n < 100000000) × (48 ≤ c) × (c ≤ 57) ⌝ }
-    ensures { λ r. ⌜ r ≤ 10 * n + 9 ⌝ }
+    ensures { λ r. ⌜ r ≡ 10 * n + (c - 48) ⌝ }
 {
     10 * n + (c - 48) as u32
 }

@@ -1,6 +1,6 @@
 // The candidates in order of their exact distances, each of which is read only when it is asked for.
 ghost use mathlib.Core.Path.{_≡_};
-ghost use Prim.Native.Nat.{_+_, _*_, _^_, _<_, _≤_};
+ghost use Prim.Native.Nat.{_+_, _*_, _^_, _<_, _≤_, min};
 ghost use lib.ListN.{length};
 ghost use Rattle.words.specs.Limits.{mostPlaces};
 ghost use Rattle.cabinet_job.specs.Job.{FullLists};
@@ -162,7 +162,7 @@ fn waiting(marks: &[u8]) -> usize {
     let mut n = 0usize;
     let mut i = 0usize;
     while i < marks.len() {
-        if marks[i] == 0 {
+        if marks[i] == words::WAITING {
             n += 1;
         }
         i += 1;
@@ -236,7 +236,7 @@ fn give(
 }
 
 fn least(a: u32, b: usize) -> usize
-    ensures { λ r. ⌜ r ≤ b ⌝ }
+    ensures { λ r. ⌜ r ≡ min a b ⌝ }
 {
     let x = a as usize;
     if x < b { x } else { b }

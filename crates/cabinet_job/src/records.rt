@@ -1,7 +1,7 @@
 // The records, read block by block, and their lower bounds.
 ghost use mathlib.Core.Path.{_≡_};
 ghost use mathlib.Core.Bool.{false};
-ghost use Prim.Native.Nat.{_+_, _^_, _<_, _≤_};
+ghost use Prim.Native.Nat.{_+_, _-_, _^_, _<_, _≤_, min};
 ghost use lib.ListN.{length};
 ghost use Rattle.words.specs.Limits.{mostPlaces};
 ghost use Rattle.cabinet_job.specs.Job.{stopsAt, FullLists};
@@ -17,7 +17,7 @@ const BLOCKS: u32 = 2;
 // How many records the block after the first `have` has: 32, or those that are left.
 fn records_in(have: u32, n: u32) -> u32
     requires { ⌜ have < n ⌝ }
-    ensures { λ r. ⌜ (0 < r) × (have + r ≤ n) ⌝ }
+    ensures { λ r. ⌜ r ≡ min 32 (n - have) ⌝ }
 {
     if n - have < 32 { n - have } else { 32 }
 }

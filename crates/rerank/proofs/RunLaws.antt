@@ -8,7 +8,8 @@ use native.Mathlib.Decide.{ℕ-discrete}
 use native.Mathlib.Omega.{arith}
 use lib.Ieee.{Float, lt}
 use Rattle.words.specs.Limits.{mostMark}
-use Rattle.rerank.specs.Rerank.{State, put, answerOf, nextRefusal, supplyRefusal, given, supplied, Event, asked, supply, gave, done, Accepted, then, ran, Run}
+use Rattle.rerank.specs.Rerank.{State, put, answerOf, nextRefusal, supplyRefusal, given, supplied}
+use Rattle.rerank.specs.Rerank.{Event, asked, supply, gave, done, Accepted, then, ran, Run}
 use Rattle.rerank.specs.Demand.{Lower, Supplied}
 use Rattle.rerank.specs.declared.Answer.the-variants.{Ask, Give}
 use Rattle.rerank.proofs.OrderLaws.{Num, Less, NotLess, false-of, true-false, less-asym, notLess-trans}

@@ -47,7 +47,8 @@ within c =
     let p = c .before .before .before .before .before .pre in
     let l = c .before .before .loop in
     let a = c .before .before .before .before .before .args in
-    omega (arith, digits-lt {q = a .at + l .j} {m = a .dims} {r = c .code-from .result} {c = levels (a .bits)} (omega arith) (rw (p .1) at (c .code-from .ensures .1)))
+    let r = c .code-from .result in
+    omega (arith, digits-lt {q = a .at + l .j} {m = a .dims} {r = r} {c = levels (a .bits)} (omega arith) (rw (p .1) at (c .code-from .ensures .1)))
 
 -- the widest row fits
 room : (c : tie.After-code-from Inv-loop μ-loop) → let a = c .before .before .before .before .before .args in

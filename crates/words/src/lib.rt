@@ -1,4 +1,6 @@
 // What every module speaks: numbers and floats in little-endian bytes, the refusal numbers, the limits, the metric.
+#![tactic(auto)]
+
 ghost use Rattle.std.specs.Prelude.{◌≡◌, ◌+◌, ◌*◌, ◌%◌, ◌^◌, ◌≤◌, ◌<◌, max, leb, eqb, length, get_or, set, false, not, ◌||◌, cond};
 ghost use Rattle.std.specs.Float.Ieee.{is_nan, nan_bits};
 ghost use Rattle.std.specs.Float.{binary32};

@@ -122,7 +122,7 @@ fn count_marks(m: &[u8], from: usize, to: usize) -> Counts
 }
 
 // What one pass over the lists finds. The least keys stand in the stretches that start at `waits_from` and `asked_from`.
-#[derive(Drop)]
+#[derive(Clone, Copy)]
 pub struct Scan {
     pub bad: u32,
     pub count: u32,

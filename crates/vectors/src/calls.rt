@@ -3,11 +3,12 @@ ghost use Rattle.std.specs.Prelude.{◌≤◌, length};
 
 use crate::line;
 use crate::line::{float, number};
+use std::io;
 
 pub const COUNT: usize = 23;
 
 // How many numbers and buffers a call takes, and how many of the buffers it writes: these are the last ones.
-#[derive(Drop)]
+#[derive(Clone, Copy)]
 pub struct Shape {
     pub numbers: u8,
     pub buffers: u8,
@@ -76,8 +77,8 @@ pub fn which(names: &[u8], name: &[u8]) -> usize {
     k
 }
 
-pub fn print_name(names: &[u8], which: usize) {
-    io::write_all(1, name_at(names, which));
+pub fn print_name(rt: &impl Print, names: &[u8], which: usize) -> io::Result<()> {
+    rt.write_all(name_at(names, which))
 }
 
 fn call_digits(which: usize, line: &[u8], b0: &mut [u8], b1: &mut [u8]) -> u32 {

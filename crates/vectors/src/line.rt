@@ -1,6 +1,5 @@
 // A line of the list: its parts, and the call that it describes.
-ghost use Rattle.std.specs.Prelude.{◌≤◌, length};
-ghost use Rattle.io.specs.Counts.{IsPrefixLen};
+ghost use Rattle.std.specs.Prelude.{◌≡◌, ◌≤◌, length, take};
 
 use crate::calls;
 
@@ -147,7 +146,7 @@ fn byte_of(high: u8, low: u8) -> u8 {
 
 // The bytes of buffer k go to the start of out, as many as it has room for: how many these are.
 fn buffer(line: &[u8], k: usize, out: &mut [u8]) -> usize
-    ensures { IsPrefixLen result out.new }
+    ensures { (result ≤ length out.new) × (result ≡ length (take result out.new)) }
 {
     let mut i = nth(line, A_BUFFER, k);
     let mut n = 0usize;

@@ -6,12 +6,23 @@
 // returns; and the buffers that it writes, as it leaves them. A number is decimal, or hexadecimal after 0x; a float is its bits. A
 // buffer is its bytes in hexadecimal between brackets, at most 40,000; one that is written stands among the parameters with what it
 // held before.
+#![tactic(auto)]
+
 ghost use Rattle.std.specs.Prelude.{◌≡◌, ◌≤◌, length};
+ghost use Rattle.std.specs.Io.{ReadsAtMost};
+
+use std::fs::File;
+use std::io;
+use std::io::Read;
+use std::rt::{Env, Files};
 
 mod calls;
 mod line;
 
 const MOST_TEXT: usize = 262144;
+
+// The bytes that a path may have, with one to spare.
+const MOST_PATH: usize = 4096;
 
 // One more, up to the largest.
 fn more(n: u64) -> u64 {
@@ -39,63 +50,81 @@ fn line_end(text: &[u8], from: usize) -> usize
     to
 }
 
-fn say_wrong(verdict: u8, at: u64) {
-    io::write_all(1, b"line ");
-    io::print_decimal(1, at);
+fn say_wrong(rt: &impl Print, verdict: u8, at: u64) -> io::Result<()> {
+    print!(rt; "line {at}")?;
     match verdict {
-        line::NUMBER => io::write_all(1, b": the number differs\n"),
-        line::BYTES => io::write_all(1, b": the bytes differ\n"),
-        line::TOO_LONG => io::write_all(1, b": a buffer of more than 40,000 bytes\n"),
-        _ => io::write_all(1, b": no such call, or parameters that it doesn't have\n"),
-    };
+        line::NUMBER => println!(rt; ": the number differs"),
+        line::BYTES => println!(rt; ": the bytes differ"),
+        line::TOO_LONG => println!(rt; ": a buffer of more than 40,000 bytes"),
+        _ => println!(rt; ": no such call, or parameters that it doesn't have"),
+    }
 }
 
 // One line: its call is counted, and counted as agreeing if it does.
-fn one(names: &[u8], text: &[u8], at: u64, seen: &mut [u64], agreed: &mut [u64]) {
+fn one(
+    rt: &impl Print,
+    names: &[u8],
+    text: &[u8],
+    at: u64,
+    seen: &mut [u64],
+    agreed: &mut [u64],
+) -> io::Result<()> {
     if text.len() == 0 {
-        return;
+        return Ok(());
     }
     if text[0] == b'#' {
-        return;
+        return Ok(());
     }
     let which = calls::which(names, line::name(text));
     let verdict = line::replay(which, text);
     count_at(seen, which);
     if verdict == line::AGREES {
         count_at(agreed, which);
+        Ok(())
     } else {
-        say_wrong(verdict, at);
+        say_wrong(rt, verdict, at)
     }
 }
 
-fn all(names: &[u8], text: &[u8], seen: &mut [u64], agreed: &mut [u64]) {
+fn all(
+    rt: &impl Print,
+    names: &[u8],
+    text: &[u8],
+    seen: &mut [u64],
+    agreed: &mut [u64],
+) -> io::Result<()> {
     let mut from = 0usize;
     let mut at: u64 = 1;
     while from < text.len() {
         let to = line_end(text, from);
-        one(names, &text[from..to], at, seen, agreed);
+        one(rt, names, &text[from..to], at, seen, agreed)?;
         from = to + 1;
         at = more(at);
     }
+    Ok(())
 }
 
-fn print_tally(names: &[u8], which: usize, seen: &[u64], agreed: &[u64]) {
+fn print_tally(
+    rt: &impl Print,
+    names: &[u8],
+    which: usize,
+    seen: &[u64],
+    agreed: &[u64],
+) -> io::Result<()> {
     if which < seen.len() {
         if which < agreed.len() {
-            calls::print_name(names, which);
-            io::write_all(1, b": ");
-            io::print_decimal(1, agreed[which]);
-            io::write_all(1, b" of ");
-            io::print_decimal(1, seen[which]);
-            io::write_all(1, b" agree\n");
+            calls::print_name(rt, names, which)?;
+            println!(rt; ": {} of {} agree", agreed[which], seen[which])?;
         }
     }
+    Ok(())
 }
 
-fn print_tallies(names: &[u8], seen: &[u64], agreed: &[u64]) {
+fn print_tallies(rt: &impl Print, names: &[u8], seen: &[u64], agreed: &[u64]) -> io::Result<()> {
     for which in 0usize..calls::COUNT {
-        print_tally(names, which, seen, agreed);
+        print_tally(rt, names, which, seen, agreed)?;
     }
+    Ok(())
 }
 
 // Room for the list. The contract gives the length alone, so that no proof writes out the zeros.
@@ -105,39 +134,55 @@ fn room() -> [u8; MOST_TEXT]
     [0; MOST_TEXT]
 }
 
-fn read_and_replay(fd: i32, names: &[u8]) {
+// Reads until the text is full or the input ends: how many bytes it put at the start of the text.
+fn read_full(file: &mut impl Read, text: &mut [u8]) -> io::Result<usize>
+    ensures { ReadsAtMost result text.new }
+{
+    let mut done = 0usize;
+    while done < text.len() {
+        let n = file.read(&mut text[done..])?;
+        if n == 0 {
+            break;
+        }
+        done += n;
+    }
+    Ok(done)
+}
+
+fn read_and_replay(rt: &impl Print, file: &mut impl Read, names: &[u8]) -> io::Result<()> {
     let mut text = room();
-    let n = io::read_full(fd, &mut text);
+    let n = read_full(file, &mut text)?;
     if n == MOST_TEXT {
-        io::write_all(1, b"the list is too long\n");
-        return;
+        return println!(rt; "the list is too long");
     }
     let mut seen = [0u64; calls::COUNT];
     let mut agreed = [0u64; calls::COUNT];
-    all(names, &text[..n], &mut seen, &mut agreed);
-    print_tallies(names, &seen, &agreed);
+    all(rt, names, &text[..n], &mut seen, &mut agreed)?;
+    print_tallies(rt, names, &seen, &agreed)
 }
 
 // The names of the calls in the order of their numbers, with a space after each.
-fn with_names(fd: i32) {
+fn with_names(rt: &impl Print, file: &mut impl Read) -> io::Result<()> {
     read_and_replay(
-        fd,
+        rt,
+        file,
         b"digits_size code_size block_size digits_pack digits_read scalar_encode scalar_table scalar_distance root code_encode code_bit block_pack block_lane query_sum code_sum block_sums code_rough code_lower_bound block_rough block_lower_bounds walk rerank_next rerank_supply ",
-    );
+    )
 }
 
-fn main() {
-    let mut path = io::buffer();
-    let n = os::arg(1, &mut path);
-    if os::errno() != 0 {
-        io::write_all(1, b"usage: vectors LIST\n");
-        return;
-    }
-    let fd = os::open_read(&path[..n]);
-    if fd < 0 {
-        io::write_all(1, b"the list can't be opened\n");
-        return;
-    }
-    with_names(fd);
-    libc::close(fd);
+// The file of that path, if it is text and the file can be opened.
+fn opened<R: Files>(rt: &R, path: &[u8]) -> Option<R::File> {
+    let text = std::str::from_utf8(path).ok()?;
+    File::open(rt, text).ok()
+}
+
+fn main(rt: HostRuntime) -> io::Result<()> {
+    let mut path = [0u8; MOST_PATH];
+    let Ok(n) = rt.arg(1, &mut path) else {
+        return println!(rt; "usage: vectors LIST");
+    };
+    let Some(mut file) = opened(&rt, &path[..n]) else {
+        return println!(rt; "the list can't be opened");
+    };
+    with_names(&rt, &mut file)
 }

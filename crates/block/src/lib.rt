@@ -1,4 +1,6 @@
 // Module 5, the block of 32 codes: its public calls. The C functions of the crate lintelkite are these.
+#![tactic(auto)]
+
 ghost use Rattle.std.specs.Prelude.{◌≡◌};
 ghost use Rattle.block.specs.Calls.{size_answer, pack_answer, lane_answer};
 

@@ -1,4 +1,6 @@
 // Module 4, the single code: its public calls. The C functions of the crate lintelkite are these.
+#![tactic(auto)]
+
 ghost use Rattle.std.specs.Prelude.{◌≡◌};
 ghost use Rattle.code.specs.Calls.{size_answer, encode_answer, bit_answer};
 

@@ -1,4 +1,6 @@
 // Module 7: the rough estimate and the lower bound, of a single code and of the 32 lanes of a block.
+#![tactic(auto)]
+
 ghost use Rattle.std.specs.Prelude.{◌≡◌, ◌*◌, ◌≤◌, length};
 ghost use Rattle.code.specs.Code.{code_size};
 ghost use Rattle.block.specs.Block.{block_groups, block_size};

@@ -1,4 +1,6 @@
 // Module 6, the sums of a block. The table is made here, from the query codes, and never handed in.
+#![tactic(auto)]
+
 ghost use Rattle.std.specs.Prelude.{◌≡◌};
 ghost use Rattle.sums.specs.Calls.{block_sums_answer};
 

@@ -1,4 +1,6 @@
 // Module 6, the sum of a single code. The planes are made here, from the query codes, and never handed in.
+#![tactic(auto)]
+
 ghost use Rattle.std.specs.Prelude.{◌≡◌};
 ghost use Rattle.sums.specs.Calls.{code_sum_answer};
 

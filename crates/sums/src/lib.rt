@@ -1,4 +1,6 @@
 // Module 6, the sums: the call on the query alone. Those on a single code and on a block stand in the crates planes and lanes.
+#![tactic(auto)]
+
 ghost use Rattle.std.specs.Prelude.{◌≡◌};
 ghost use Rattle.sums.specs.Calls.{query_sum_answer};
 

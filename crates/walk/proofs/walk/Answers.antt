@@ -91,13 +91,16 @@ pub put_lists-requires : goal.put_lists-requires
 put_lists-requires c =
     let k = known _ _ _ _ _ _ _ _ _ _ _ _ _ (accepts ((goal.at.put_lists-requires c).Else-r-ne-ACCEPTED)) in
     let i = inside _ _ _ _ (within ((goal.at.put_lists-requires c).Else-r-ne-ACCEPTED-2)) in
-    let n = c.range_len-c.ensures in record { c_bound = (
+    let n = c.range_len-c.ensures in record {
+      c_bound = (
         omega (arith, n, c.ranges.start, c.ranges.end),
         omega (arith, n, i.1, k.places),
         c.part-bs.ensures.1,
         omega (arith, n, i.1, k.ids_are),
         omega (arith, n, i.1, k.bounds_are),
-      ); c_in_bounds = (omega (arith, n, i.1), k.count_is) }
+      );
+      c_in_bounds = (omega (arith, n, i.1), k.count_is);
+    }
 
 pub returns : goal.returns
 returns c =

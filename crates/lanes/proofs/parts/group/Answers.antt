@@ -29,12 +29,15 @@ returns c =
     let x = get_or a.block.now (512 + 16 * a.g + a.j) 0 in
     let byte : x < 256 = omega (arith, c.shared_slice_known-4-1.given (512 + 16 * a.g + a.j)) in
     let low : x % 16 * 16 / 16 ≡ x % 16 = omega arith in
-    let is = group_of a.q.now a.t.now c.requires.2.wide a.g a.j in record { lo_value = (
+    let is = group_of a.q.now a.t.now c.requires.2.wide a.g a.j in record {
+      lo_value = (
         is _ _ c.requires.1 c.requires.0 c.four.ensures.0 ∙ ap (group_sum a.q.now a.g)
             (low ∙ sym (nibble_low a.block.now a.j a.g c.requires.0)),
         c.four.ensures.1,
-      ); hi_value = (
+      );
+      hi_value = (
         is _ _ c.requires.1 c.requires.0 c.four-2.ensures.0 ∙ ap (group_sum a.q.now a.g)
             (sym (nibble_high a.block.now a.j a.g c.requires.0 byte)),
         c.four-2.ensures.1,
-      ) }
+      );
+    }

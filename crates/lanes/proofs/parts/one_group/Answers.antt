@@ -34,8 +34,11 @@ loop-j-preserved c =
 pub returns : goal.returns
 returns c =
     let a = c.args in
-    let l = c.loop-j in record { sixteen = record {
+    let l = c.loop-j in record {
+      sixteen = record {
         long = l.invariant.1;
         each = λ j h. l.invariant.3 j (omega arith) ∙ ap (λ (k : ℕ). groups_sum a.q.now (lane_nibble a.block.now k) a.g 1)
             (sym (add-zero j));
-      }; sixteen_2 = record { long = l.invariant.2; each = λ j h. l.invariant.4 j (omega arith) } }
+      };
+      sixteen_2 = record { long = l.invariant.2; each = λ j h. l.invariant.4 j (omega arith) };
+    }

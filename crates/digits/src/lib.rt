@@ -1,4 +1,6 @@
 // Module 1: codes of 1, 2, 4 or 8 bits in bytes.
+#![tactic(auto)]
+
 ghost use Rattle.std.specs.Prelude.{◌≡◌};
 ghost use Rattle.digits.specs.Found.{found_bits};
 ghost use Rattle.digits.specs.Digits.{bits_of, top};
@@ -7,7 +9,7 @@ ghost use Rattle.digits.specs.Calls.{size_answer, pack_answer, read_answer};
 pub mod parts;
 
 // The width of a code. No other width can be made, so nothing over one has to refuse or to require.
-#[derive(Drop)]
+#[derive(Clone, Copy)]
 pub enum Width {
     One,
     Two,

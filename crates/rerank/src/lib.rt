@@ -1,5 +1,7 @@
 // Module 9: the reranker, over lent byte buffers. It ports `ErrorFlatReranker` of the Rust's reranker/error.rs: the heaps
 // become one scan over the lists (crate scan), the callback becomes Ask and supply.
+#![tactic(auto)]
+
 ghost use Rattle.std.specs.Prelude.{◌≡◌, false, ◌||◌, cond, ◌+◌, ◌*◌, ◌<◌, ◌++◌, length};
 ghost use Rattle.words.specs.Bytes.{bytes_of, float_bytes};
 ghost use Rattle.words.specs.Refusals.{or_else, bad_lists};
@@ -17,7 +19,7 @@ pub const ASK: u32 = 1;
 pub const GIVE: u32 = 2;
 
 // What the rule says to do next: ask for a place's distance, hand a place out, or nothing.
-#[derive(Drop)]
+#[derive(Clone, Copy)]
 pub enum Answer {
     Ask(u32),
     Give(u32, f32),
@@ -52,7 +54,7 @@ fn choose(e: &[u8], d: &[u8], m: &[u8], s: Scan) -> Answer
 }
 
 // What a call on these lists is refused with, or the answer and the count of marks 1 and 2.
-#[derive(Drop)]
+#[derive(Clone, Copy)]
 struct Ruling {
     refused: u32,
     answer: Answer,

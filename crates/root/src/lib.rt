@@ -1,4 +1,6 @@
 // Module 3: the square root of an f32, IEEE 754-2019, correctly rounded, ties to even.
+#![tactic(auto)]
+
 ghost use Rattle.std.specs.Prelude.{◌≡◌};
 ghost use Rattle.root.specs.Root.{root_of};
 ghost use Rattle.root.specs.Calls.{root_answer};

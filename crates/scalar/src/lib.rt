@@ -1,4 +1,6 @@
 // Module 2, scalar quantizer: the code of a vector. Tables and distances stand in the crate tables.
+#![tactic(auto)]
+
 ghost use Rattle.std.specs.Prelude.{◌≡◌};
 ghost use Rattle.scalar.specs.Calls.{encode_answer};
 

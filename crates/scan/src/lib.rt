@@ -1,5 +1,7 @@
 // One pass over the reranker's lists, for callers that have judged their lengths: how many NaNs and bad marks there are, how many
 // places do not wait, and the least estimate of a waiting place and distance of an asked one, as keys.
+#![tactic(auto)]
+
 ghost use Rattle.std.specs.Prelude.{◌≡◌, cond, ◌+◌, ◌*◌, ◌<◌, ◌≤◌, min, eqb, ltb, length};
 ghost use Rattle.words.specs.Limits.{most_places};
 ghost use Rattle.scan.specs.Parts.{key_of, key_if, lesser, key_at, nan_one, lacks, above_most, not_zero};
@@ -41,7 +43,7 @@ fn nan_if(is: bool, u: u32) -> u32
 }
 
 // How many NaNs there are, and the least keys of a waiting place and of an asked one.
-#[derive(Drop)]
+#[derive(Clone, Copy)]
 pub struct Keys {
     pub missing: u32,
     pub waiting: u32,
@@ -120,7 +122,7 @@ fn count_marks(m: &[u8], from: usize, to: usize) -> Counts
 }
 
 // What one pass over the lists finds. The least keys stand in the stretches that start at `waits_from` and `asked_from`.
-#[derive(Drop)]
+#[derive(Clone, Copy)]
 pub struct Scan {
     pub bad: u32,
     pub count: u32,

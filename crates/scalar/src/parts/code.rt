@@ -55,8 +55,8 @@ pub fn del_of(top: u8, lo: f32, hi: f32) -> f32
 
 // The code of dimension i.
 fn code_at(top: u8, dims: usize, vector: &[u8], lo: &[u8], hi: &[u8], i: usize) -> u8
-    requires fact_1 { FineVectors dims vector.now lo.now hi.now }
-    requires fact_2 { i < dims }
+    requires fine { FineVectors dims vector.now lo.now hi.now }
+    requires within { i < dims }
     ensures { result ≡ dimension_code top vector.now lo.now hi.now i }
 {
     let x = words::number_at(vector, i);
@@ -76,8 +76,8 @@ fn join_at(
     hi: &[u8],
     at: usize,
 ) -> u8
-    requires fact_1 { FineVectors dims vector.now lo.now hi.now }
-    requires fact_2 { (is_width bits ≡ true) × (top ≡ d.top bits) × (n ≤ per_byte bits) × (at + n ≤ dims) }
+    requires fine { FineVectors dims vector.now lo.now hi.now }
+    requires sizes { (is_width bits ≡ true) × (top ≡ d.top bits) × (n ≤ per_byte bits) × (at + n ≤ dims) }
     ensures { result ≡ join bits n (λ j. dimension_code top vector.now lo.now hi.now (at + j)) }
 {
     let mut byte: u8 = 0;
@@ -101,8 +101,8 @@ fn encode_bits(
     hi: &[u8],
     out: &mut [u8],
 )
-    requires fact_1 { FineVectors dims vector.now lo.now hi.now }
-    requires fact_2 { (is_width bits ≡ true) × (per ≡ per_byte bits) × (top ≡ d.top bits) × (dims ≤ most_scalar_dims) × (length out.old ≡ packed_size bits dims) }
+    requires fine { FineVectors dims vector.now lo.now hi.now }
+    requires sizes { (is_width bits ≡ true) × (per ≡ per_byte bits) × (top ≡ d.top bits) × (dims ≤ most_scalar_dims) × (length out.old ≡ packed_size bits dims) }
     ensures { out.new ≡ scalar_code bits dims vector.now lo.now hi.now }
 {
     let mut k = 0usize;
@@ -119,8 +119,8 @@ fn encode_bits(
 
 // The code of a vector.
 pub fn encode(w: Width, dims: usize, vector: &[u8], lo: &[u8], hi: &[u8], out: &mut [u8])
-    requires fact_1 { FineVectors dims vector.now lo.now hi.now }
-    requires fact_2 { (dims ≤ most_scalar_dims) × (length out.old ≡ packed_size (bits_of w) dims) }
+    requires fine { FineVectors dims vector.now lo.now hi.now }
+    requires sizes { (dims ≤ most_scalar_dims) × (length out.old ≡ packed_size (bits_of w) dims) }
     ensures { out.new ≡ scalar_code (bits_of w) dims vector.now lo.now hi.now }
 {
     match w {

@@ -1,0 +1,14 @@
+-- `block::parts::lane` meets its contract. Assumes nothing.
+use mathlib.Core.Path.{◌≡◌}
+use Prim.Native.Nat.{ℕ, ◌-◌, ◌<◌, ◌≤◌}
+use lib.ListN.{length, get_or}
+use Rattle.code.specs.Code.{code_size, code_byte}
+use Rattle.block.specs.Block.{lane_factor, lane_bit}
+use Rattle.block.proofs.parts.lane.Given as goal
+
+abbrev pub invariant-loop-i : goal.invariant-loop-i
+invariant-loop-i l = (l.i ≤ length l.initial.code) × (length l.code ≡ code_size l.dims)
+    × ((j : ℕ) → j < l.i → get_or l.code j 0 ≡ code_byte l.dims (lane_factor l.block l.k) (lane_bit l.block l.k) j)
+
+abbrev pub decreases-loop-i : goal.decreases-loop-i
+decreases-loop-i l = length l.initial.code - l.i

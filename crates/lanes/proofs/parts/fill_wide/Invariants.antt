@@ -1,0 +1,11 @@
+-- `lanes::parts::fill_wide` meets its contract. Assumes nothing.
+use mathlib.Core.Path.{◌≡◌}
+use Prim.Native.Nat.{ℕ, ◌*◌, ◌-◌, ◌/◌, ◌<◌, ◌≤◌}
+use lib.ListN.{length, get_or}
+use Rattle.lanes.proofs.parts.fill_wide.Given as goal
+
+abbrev pub invariant-loop-d : goal.invariant-loop-d
+invariant-loop-d l = (l.d ≤ l.n) × (length l.t ≡ length l.initial.t) × ((i : ℕ) → i < 16 * l.d → get_or l.t i 0 ≡ get_or l.q (i / 16) 0)
+
+abbrev pub decreases-loop-d : goal.decreases-loop-d
+decreases-loop-d l = l.n - l.d

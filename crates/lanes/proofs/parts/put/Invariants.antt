@@ -1,0 +1,12 @@
+-- `lanes::parts::put` meets its contract. Assumes nothing.
+use mathlib.Core.Path.{◌≡◌}
+use Prim.Native.Nat.{ℕ, ◌+◌, ◌-◌, ◌<◌, ◌≤◌}
+use lib.ListN.{length, get_or}
+use Rattle.lanes.proofs.parts.put.Given as goal
+
+abbrev pub invariant-loop-j : goal.invariant-loop-j
+invariant-loop-j l = (l.j ≤ 16) × (length l.out ≡ 32) × ((k : ℕ) → k < l.at → get_or l.out k 0 ≡ get_or l.initial.out k 0) ×
+    ((i : ℕ) → i < l.j → get_or l.out (i + l.at) 0 ≡ get_or l.acc i 0)
+
+abbrev pub decreases-loop-j : goal.decreases-loop-j
+decreases-loop-j l = 16 - l.j

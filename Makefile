@@ -20,9 +20,11 @@ ARCHIVE    = $(BUILT)
 .PHONY: all test install uninstall
 all: $(ARCHIVE)
 
-$(BUILT): crates.txt $(shell find crates -type f)
-	rt staticlib lintelkite
-	@touch $@
+# rt writes crates/lintelkite_c/out/liblintelkite_c.a, for any x86-64. The copy has the library's own name, and lands whole.
+$(BUILT): crates.txt $(shell find crates -name out -prune -o -type f -print)
+	cd crates/lintelkite_c && rt lib --cpu=x86-64
+	@mkdir -p $(@D)
+	@cp crates/lintelkite_c/out/liblintelkite_c.a $@.$$$$ && mv $@.$$$$ $@
 
 test:
 	.ci/run

@@ -1,6 +1,6 @@
 /* A first program with Lintelkite: five codes of two bits each are packed into two bytes and read back.
  *
- *   rt staticlib lintelkite
+ *   make
  *   cc -std=c99 -Iinclude examples/first.c target/staticlib/liblintelkite.a -o first
  *
  * It exits with 0 when every answer is the one it expects.

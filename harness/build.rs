@@ -1,8 +1,7 @@
 //! Builds the static library and links it.
 //!
-//! `rt staticlib lintelkite` proves the library and writes target/staticlib/liblintelkite.a. The harness links a copy
-//! in its own folder, because `rt ci` removes target/. LINTELKITE_ARCHIVE names an archive that is built already and is
-//! linked instead.
+//! `make` has `rt` prove the library and writes target/staticlib/liblintelkite.a, where that has not been done. The
+//! harness links a copy in its own folder. LINTELKITE_ARCHIVE names an archive that is built already and is linked instead.
 
 use std::path::{Path, PathBuf};
 use std::process::{Command, Stdio};
@@ -40,22 +39,31 @@ fn avx512() {
 }
 
 fn build(root: &Path) -> PathBuf {
-    for part in ["crates", "crates.txt"] {
-        println!("cargo:rerun-if-changed={}", root.join(part).display());
+    // What the archive is made of. Beside it rt writes crates/NAME/out, which must not have this run again.
+    println!("cargo:rerun-if-changed={}", root.join("crates.txt").display());
+    println!("cargo:rerun-if-changed={}", root.join("Makefile").display());
+    for folder in fs::read_dir(root.join("crates")).unwrap().map(|entry| entry.unwrap().path()) {
+        for part in ["src", "specs", "proofs"].map(|part| folder.join(part)) {
+            if part.is_dir() {
+                println!("cargo:rerun-if-changed={}", part.display());
+            }
+        }
     }
-    let ran = Command::new("rt")
-        .args(["staticlib", "lintelkite"])
+    let built = "target/staticlib/liblintelkite.a";
+    let ran = Command::new("make")
+        .args(["--no-print-directory", "-s", built])
+        .env_remove("MAKEFLAGS")
         .current_dir(root)
         .stdin(Stdio::null())
         .output()
-        .unwrap_or_else(|why| panic!("cannot run rt: {why}"));
+        .unwrap_or_else(|why| panic!("cannot run make: {why}"));
     if !ran.status.success() {
         panic!(
-            "rt staticlib lintelkite: {}\n{}{}",
+            "make {built}: {}\n{}{}",
             ran.status,
             String::from_utf8_lossy(&ran.stdout),
             String::from_utf8_lossy(&ran.stderr)
         );
     }
-    root.join("target/staticlib/liblintelkite.a")
+    root.join(built)
 }

@@ -3,8 +3,8 @@
 //!
 //! 1. LINTELKITE_ARCHIVE names the archive.
 //! 2. LINTELKITE_PREFIX is what `make install PREFIX=..` was given: the archive is lib/liblintelkite.a in it.
-//! 3. `rt staticlib lintelkite` at the repository's root proves the library and builds it. Its archive is linked as a
-//!    copy, because `rt ci` removes target/.
+//! 3. `make` at the repository's root has `rt` prove the library and build it, where that has not been done. Its archive
+//!    is linked as a copy.
 
 use std::path::{Path, PathBuf};
 use std::process::{Command, Stdio};
@@ -41,18 +41,28 @@ fn build() -> PathBuf {
     if !root.join("crates.txt").is_file() {
         panic!("no archive: set LINTELKITE_ARCHIVE or LINTELKITE_PREFIX, or build inside Lintelkite's repository");
     }
-    for part in ["crates", "crates.txt"] {
-        println!("cargo:rerun-if-changed={}", root.join(part).display());
+    // What the archive is made of. Beside it rt writes crates/NAME/out, which must not have this run again.
+    println!("cargo:rerun-if-changed={}", root.join("crates.txt").display());
+    println!("cargo:rerun-if-changed={}", root.join("Makefile").display());
+    let crates = fs::read_dir(root.join("crates")).unwrap_or_else(|why| panic!("cannot read crates/: {why}"));
+    for folder in crates.map(|entry| entry.unwrap().path()) {
+        for part in ["src", "specs", "proofs"].map(|part| folder.join(part)) {
+            if part.is_dir() {
+                println!("cargo:rerun-if-changed={}", part.display());
+            }
+        }
     }
-    let ran = Command::new("rt")
-        .args(["staticlib", "lintelkite"])
+    let built = format!("target/staticlib/{NAME}");
+    let ran = Command::new("make")
+        .args(["--no-print-directory", "-s", &built])
+        .env_remove("MAKEFLAGS")
         .current_dir(&root)
         .stdin(Stdio::null())
         .output()
-        .unwrap_or_else(|why| panic!("cannot run rt: {why}"));
+        .unwrap_or_else(|why| panic!("cannot run make: {why}"));
     if !ran.status.success() {
         let said = [ran.stdout, ran.stderr].map(|text| String::from_utf8_lossy(&text).into_owned());
-        panic!("rt staticlib lintelkite: {}\n{}{}", ran.status, said[0], said[1]);
+        panic!("make {built}: {}\n{}{}", ran.status, said[0], said[1]);
     }
-    root.join("target/staticlib").join(NAME)
+    root.join(built)
 }

@@ -20,8 +20,8 @@
 //! | [`bytes`] | floats and little-endian bytes |
 //!
 //! The crate links liblintelkite.a into the program. It takes the archive that LINTELKITE_ARCHIVE names, or the one that
-//! `make install` put under LINTELKITE_PREFIX, both whole paths; inside the repository, where neither is set, it has `rt`
-//! build it.
+//! `make install` put under LINTELKITE_PREFIX, both whole paths; inside the repository, where neither is set, it has `make`
+//! and `rt` build it.
 //!
 //! # A search from end to end
 //!

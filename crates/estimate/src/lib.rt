@@ -13,14 +13,14 @@ use words::{ACCEPTED, BAD_DIMS, MOST_DIMS, Metric, NO_ESTIMATE, bad_dims, metric
 pub mod parts;
 
 // Which number a call gives.
-#[derive(Drop)]
+#[derive(Clone, Copy)]
 pub enum Asked {
     Rough,
     LowerBound,
 }
 
 // The query record beside its codes.
-#[derive(Drop)]
+#[derive(Clone, Copy)]
 pub struct Query {
     pub dis_v_2: f32,
     pub b: f32,
@@ -28,7 +28,7 @@ pub struct Query {
 }
 
 // What is made of a query once: the record, root(dis_v_2), and the sum of all codes.
-#[derive(Drop)]
+#[derive(Clone, Copy)]
 pub struct Ready {
     pub v: Query,
     pub root: f32,

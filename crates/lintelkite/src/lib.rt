@@ -1,4 +1,7 @@
-// The C boundary of include/lintelkite.h, in the header's order. Each function forwards to its module's call and makes its promise.
+// The calls of include/lintelkite.h, in the header's order. Each function forwards to its module's call and makes its promise.
+// lintelkite_c exports each to C under the same name, with the same promise.
+#![tactic(auto)]
+
 ghost use Rattle.std.specs.Prelude.{◌≡◌};
 ghost use Rattle.digits.specs.Calls as digits;
 ghost use Rattle.scalar.specs.Calls as scalar;
@@ -16,22 +19,19 @@ use estimate::{Asked, Query};
 
 // ---- sizes
 
-#[unsafe(no_mangle)]
-pub extern "C" fn lk_digits_size(dims: u32, bits: u32, out: &mut [u8]) -> u32
+pub fn lk_digits_size(dims: u32, bits: u32, out: &mut [u8]) -> u32
     ensures { (result, out.new) ≡ digits.size_answer dims bits out.old }
 {
     digits::digits_size(dims, bits, out)
 }
 
-#[unsafe(no_mangle)]
-pub extern "C" fn lk_code_size(dims: u32, out: &mut [u8]) -> u32
+pub fn lk_code_size(dims: u32, out: &mut [u8]) -> u32
     ensures { (result, out.new) ≡ single.size_answer dims out.old }
 {
     code::code_size(dims, out)
 }
 
-#[unsafe(no_mangle)]
-pub extern "C" fn lk_block_size(dims: u32, out: &mut [u8]) -> u32
+pub fn lk_block_size(dims: u32, out: &mut [u8]) -> u32
     ensures { (result, out.new) ≡ blocks.size_answer dims out.old }
 {
     block::block_size(dims, out)
@@ -39,21 +39,13 @@ pub extern "C" fn lk_block_size(dims: u32, out: &mut [u8]) -> u32
 
 // ---- module 1, digits
 
-#[unsafe(no_mangle)]
-pub extern "C" fn lk_digits_pack(dims: u32, bits: u32, codes: &[u8], packed: &mut [u8]) -> u32
+pub fn lk_digits_pack(dims: u32, bits: u32, codes: &[u8], packed: &mut [u8]) -> u32
     ensures { (result, packed.new) ≡ digits.pack_answer dims bits codes.now packed.old }
 {
     digits::digits_pack(dims, bits, codes, packed)
 }
 
-#[unsafe(no_mangle)]
-pub extern "C" fn lk_digits_read(
-    dims: u32,
-    bits: u32,
-    packed: &[u8],
-    index: u32,
-    out: &mut [u8],
-) -> u32
+pub fn lk_digits_read(dims: u32, bits: u32, packed: &[u8], index: u32, out: &mut [u8]) -> u32
     ensures { (result, out.new) ≡ digits.read_answer dims bits packed.now index out.old }
 {
     digits::digits_read(dims, bits, packed, index, out)
@@ -61,8 +53,7 @@ pub extern "C" fn lk_digits_read(
 
 // ---- module 2, scalar quantizer
 
-#[unsafe(no_mangle)]
-pub extern "C" fn lk_scalar_encode(
+pub fn lk_scalar_encode(
     dims: u32,
     bits: u32,
     vector: &[u8],
@@ -75,8 +66,7 @@ pub extern "C" fn lk_scalar_encode(
     scalar::scalar_encode(dims, bits, vector, min, max, code)
 }
 
-#[unsafe(no_mangle)]
-pub extern "C" fn lk_scalar_table(
+pub fn lk_scalar_table(
     metric: u32,
     dims: u32,
     bits: u32,
@@ -91,8 +81,7 @@ pub extern "C" fn lk_scalar_table(
     tables::scalar_table(metric, dims, bits, vector, min, max, table)
 }
 
-#[unsafe(no_mangle)]
-pub extern "C" fn lk_scalar_distance(
+pub fn lk_scalar_distance(
     metric: u32,
     dims: u32,
     bits: u32,
@@ -107,8 +96,7 @@ pub extern "C" fn lk_scalar_distance(
 
 // ---- module 3, square root
 
-#[unsafe(no_mangle)]
-pub extern "C" fn lk_root(x: f32, out: &mut [u8]) -> u32
+pub fn lk_root(x: f32, out: &mut [u8]) -> u32
     ensures { (result, out.new) ≡ root.root_answer x out.old }
 {
     root::root_bytes(x, out)
@@ -116,15 +104,13 @@ pub extern "C" fn lk_root(x: f32, out: &mut [u8]) -> u32
 
 // ---- module 4, single code
 
-#[unsafe(no_mangle)]
-pub extern "C" fn lk_code_encode(dims: u32, factors: &[u8], vector: &[u8], code: &mut [u8]) -> u32
+pub fn lk_code_encode(dims: u32, factors: &[u8], vector: &[u8], code: &mut [u8]) -> u32
     ensures { (result, code.new) ≡ single.encode_answer dims factors.now vector.now code.old }
 {
     code::code_encode(dims, factors, vector, code)
 }
 
-#[unsafe(no_mangle)]
-pub extern "C" fn lk_code_bit(dims: u32, code: &[u8], index: u32, out: &mut [u8]) -> u32
+pub fn lk_code_bit(dims: u32, code: &[u8], index: u32, out: &mut [u8]) -> u32
     ensures { (result, out.new) ≡ single.bit_answer dims code.now index out.old }
 {
     code::code_bit(dims, code, index, out)
@@ -132,15 +118,13 @@ pub extern "C" fn lk_code_bit(dims: u32, code: &[u8], index: u32, out: &mut [u8]
 
 // ---- module 5, block
 
-#[unsafe(no_mangle)]
-pub extern "C" fn lk_block_pack(dims: u32, codes: &[u8], block: &mut [u8]) -> u32
+pub fn lk_block_pack(dims: u32, codes: &[u8], block: &mut [u8]) -> u32
     ensures { (result, block.new) ≡ blocks.pack_answer dims codes.now block.old }
 {
     block::block_pack(dims, codes, block)
 }
 
-#[unsafe(no_mangle)]
-pub extern "C" fn lk_block_lane(dims: u32, block: &[u8], lane: u32, code: &mut [u8]) -> u32
+pub fn lk_block_lane(dims: u32, block: &[u8], lane: u32, code: &mut [u8]) -> u32
     ensures { (result, code.new) ≡ blocks.lane_answer dims block.now lane code.old }
 {
     block::block_lane(dims, block, lane, code)
@@ -148,22 +132,19 @@ pub extern "C" fn lk_block_lane(dims: u32, block: &[u8], lane: u32, code: &mut [
 
 // ---- module 6, sums
 
-#[unsafe(no_mangle)]
-pub extern "C" fn lk_query_sum(dims: u32, query: &[u8], out: &mut [u8]) -> u32
+pub fn lk_query_sum(dims: u32, query: &[u8], out: &mut [u8]) -> u32
     ensures { (result, out.new) ≡ sums.query_sum_answer dims query.now out.old }
 {
     sums::query_sum(dims, query, out)
 }
 
-#[unsafe(no_mangle)]
-pub extern "C" fn lk_code_sum(dims: u32, query: &[u8], code: &[u8], out: &mut [u8]) -> u32
+pub fn lk_code_sum(dims: u32, query: &[u8], code: &[u8], out: &mut [u8]) -> u32
     ensures { (result, out.new) ≡ sums.code_sum_answer dims query.now code.now out.old }
 {
     planes::code_sum(dims, query, code, out)
 }
 
-#[unsafe(no_mangle)]
-pub extern "C" fn lk_block_sums(dims: u32, query: &[u8], block: &[u8], out: &mut [u8]) -> u32
+pub fn lk_block_sums(dims: u32, query: &[u8], block: &[u8], out: &mut [u8]) -> u32
     ensures { (result, out.new) ≡ sums.block_sums_answer dims query.now block.now out.old }
 {
     lanes::block_sums(dims, query, block, out)
@@ -171,8 +152,7 @@ pub extern "C" fn lk_block_sums(dims: u32, query: &[u8], block: &[u8], out: &mut
 
 // ---- module 7, estimates
 
-#[unsafe(no_mangle)]
-pub extern "C" fn lk_code_rough(
+pub fn lk_code_rough(
     metric: u32,
     dims: u32,
     dis_v_2: f32,
@@ -189,8 +169,7 @@ pub extern "C" fn lk_code_rough(
     estimate::code_call(Asked::Rough, metric, dims, v, query, code, out)
 }
 
-#[unsafe(no_mangle)]
-pub extern "C" fn lk_code_lower_bound(
+pub fn lk_code_lower_bound(
     metric: u32,
     dims: u32,
     dis_v_2: f32,
@@ -207,8 +186,7 @@ pub extern "C" fn lk_code_lower_bound(
     estimate::code_call(Asked::LowerBound, metric, dims, v, query, code, out)
 }
 
-#[unsafe(no_mangle)]
-pub extern "C" fn lk_block_rough(
+pub fn lk_block_rough(
     metric: u32,
     dims: u32,
     dis_v_2: f32,
@@ -225,8 +203,7 @@ pub extern "C" fn lk_block_rough(
     estimate::block_call(Asked::Rough, metric, dims, v, query, block, out)
 }
 
-#[unsafe(no_mangle)]
-pub extern "C" fn lk_block_lower_bounds(
+pub fn lk_block_lower_bounds(
     metric: u32,
     dims: u32,
     dis_v_2: f32,
@@ -245,8 +222,7 @@ pub extern "C" fn lk_block_lower_bounds(
 
 // ---- module 8, range walk
 
-#[unsafe(no_mangle)]
-pub extern "C" fn lk_walk(
+pub fn lk_walk(
     metric: u32,
     layout: u32,
     dims: u32,
@@ -275,21 +251,14 @@ pub extern "C" fn lk_walk(
 
 // ---- module 9, reranker
 
-#[unsafe(no_mangle)]
-pub extern "C" fn lk_rerank_next(
-    estimates: &[u8],
-    distances: &[u8],
-    marks: &mut [u8],
-    out: &mut [u8],
-) -> u32
+pub fn lk_rerank_next(estimates: &[u8], distances: &[u8], marks: &mut [u8], out: &mut [u8]) -> u32
     ensures { (result, marks.new, out.new)
         ≡ rerank.next_answer estimates.now distances.now marks.old out.old }
 {
     rerank::next(estimates, distances, marks, out)
 }
 
-#[unsafe(no_mangle)]
-pub extern "C" fn lk_rerank_supply(
+pub fn lk_rerank_supply(
     estimates: &[u8],
     distances: &mut [u8],
     marks: &mut [u8],

@@ -1,4 +1,6 @@
 // Module 2, scalar quantizer: the table of a query, and the distance of a code by it.
+#![tactic(auto)]
+
 ghost use Rattle.std.specs.Prelude.{◌≡◌};
 ghost use Rattle.scalar.specs.Calls.{table_answer, distance_answer};
 

@@ -25,7 +25,7 @@ use words::{
     put_number, put_u32,
 };
 
-#[derive(Drop)]
+#[derive(Clone, Copy)]
 pub enum Layout {
     Single,
     Blocks,

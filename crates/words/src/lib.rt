@@ -57,7 +57,7 @@ const INFINITY: u32 = 0x7F80_0000;
 
 const LEAST_NAN: u32 = INFINITY + 1;
 
-#[derive(Drop)]
+#[derive(Clone, Copy)]
 pub enum Metric {
     L2,
     Dot,

@@ -79,8 +79,8 @@ fn fill_rows(
     hi: &[u8],
     out: &mut [u8],
 )
-    requires fact_1 { FineVectors dims vector.now lo.now hi.now }
-    requires fact_2 { (is_width bits ≡ true) × (n ≡ levels bits) × (top ≡ d.top bits) × (length out.old ≡ table_size bits dims) }
+    requires fine { FineVectors dims vector.now lo.now hi.now }
+    requires sizes { (is_width bits ≡ true) × (n ≡ levels bits) × (top ≡ d.top bits) × (length out.old ≡ table_size bits dims) }
     ensures { out.new ≡ table_bytes m bits dims vector.now lo.now hi.now }
 {
     let mut i = 0usize;
@@ -97,8 +97,8 @@ fn fill_rows(
 
 // The table of a query.
 pub fn fill(m: Metric, w: Width, dims: usize, vector: &[u8], lo: &[u8], hi: &[u8], out: &mut [u8])
-    requires fact_1 { FineVectors dims vector.now lo.now hi.now }
-    requires fact_2 { length out.old ≡ table_size (bits_of w) dims }
+    requires fine { FineVectors dims vector.now lo.now hi.now }
+    requires sizes { length out.old ≡ table_size (bits_of w) dims }
     ensures { out.new ≡ table_bytes m (bits_of w) dims vector.now lo.now hi.now }
 {
     match w {

@@ -7,7 +7,7 @@ pub enum Number {
     Not,
 }
 
-// What can't be written is left out, here and in all that prints.
+// A write that fails is passed over, here and in all that prints.
 pub fn put(rt: &impl Print, s: &[u8]) {
     let _ = rt.write_all(s);
 }

@@ -244,8 +244,8 @@ fn least(a: u32, b: usize) -> usize
     if x < b { x } else { b }
 }
 
-// Where the file ends, if it has an end to seek.
-fn size_of(file: &mut impl Seek) -> Option<u64> {
+// Where the file ends; none where that can't be asked.
+fn end_of(file: &mut impl Seek) -> Option<u64> {
     file.seek(SeekFrom::End(0)).ok()
 }
 
@@ -263,7 +263,7 @@ pub fn rank<F: Seek + FileExt>(
     requires full_lists { FullLists ids.now bounds.now marks.old }
 {
     let four = 4 * n;
-    if size_of(file) != Some(four as u64) {
+    if end_of(file) != Some(four as u64) {
         return Outcome::Stop(Fault::Floats);
     }
     let mut distances = [0u8; 4 * MOST_PLACES];

@@ -1,4 +1,6 @@
 // Prints the candidates of a cabinet in the order of their exact distances: see cabinet_job.
-fn main() {
-    cabinet_job::run();
+#![tactic(auto)]
+
+fn main(rt: HostRuntime) {
+    cabinet_job::run(&rt);
 }

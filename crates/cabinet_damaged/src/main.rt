@@ -1,4 +1,6 @@
 // The program `cabinet` on a damaged sample: a distance that it asks for is a NaN.
-fn main() {
-    cabinet_job::run();
+#![tactic(auto)]
+
+fn main(rt: HostRuntime) {
+    cabinet_job::run(&rt);
 }

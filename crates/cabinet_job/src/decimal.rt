@@ -7,8 +7,13 @@ pub enum Number {
     Not,
 }
 
-pub fn put(s: &[u8]) {
-    io::write_all(1, s);
+// A write that fails is passed over, here and in all that prints.
+pub fn put(rt: &impl Print, s: &[u8]) {
+    let _ = rt.write_all(s);
+}
+
+pub fn put_decimal(rt: &impl Print, n: u64) {
+    let _ = print!(rt; "{n}");
 }
 
 // The value so far with one digit more. Nine digits stay below 2^32.
@@ -58,84 +63,84 @@ fn two_to(k: u32) -> u64
 }
 
 // A point and the decimal digits of rest / unit: all of them, or nine and two points where there are more.
-fn print_fraction(rest: u64, unit: u64)
+fn print_fraction(rt: &impl Print, rest: u64, unit: u64)
     requires { (rest < unit) × (unit ≤ 2 ^ 60) }
 {
     if rest == 0 {
         return;
     }
-    put(b".");
+    put(rt, b".");
     let mut left = rest;
     let mut n: u32 = 0;
     while n < 9 {
         if left == 0 {
             return;
         }
-        io::print_decimal(1, 10 * left / unit);
+        put_decimal(rt, 10 * left / unit);
         left = 10 * left % unit;
         n += 1;
     }
     if 0 < left {
-        put(b"..");
+        put(rt, b"..");
     }
 }
 
 // m / 2^k.
-fn print_split(m: u64, k: u32)
+fn print_split(rt: &impl Print, m: u64, k: u32)
     requires { k ≤ 60 }
 {
     let unit = two_to(k);
-    io::print_decimal(1, m / unit);
-    print_fraction(m % unit, unit);
+    put_decimal(rt, m / unit);
+    print_fraction(rt, m % unit, unit);
 }
 
-fn print_scaled(m: u64, sign: &[u8], k: u32) {
-    io::print_decimal(1, m);
-    put(b" x 2^");
-    put(sign);
-    io::print_decimal(1, k as u64);
+fn print_scaled(rt: &impl Print, m: u64, sign: &[u8], k: u32) {
+    put_decimal(rt, m);
+    put(rt, b" x 2^");
+    put(rt, sign);
+    put_decimal(rt, k as u64);
 }
 
 // m * 2^(e - 150): in decimal, or as that product where it is at least 2^64 or has more than 60 binary places.
-fn print_magnitude(m: u64, e: u32)
+fn print_magnitude(rt: &impl Print, m: u64, e: u32)
     requires { m < 2 ^ 24 }
 {
     if 190 < e {
-        print_scaled(m, b"", e - 150);
+        print_scaled(rt, m, b"", e - 150);
     } else if 150 <= e {
-        io::print_decimal(1, m * two_to(e - 150));
+        put_decimal(rt, m * two_to(e - 150));
     } else if 90 <= e {
-        print_split(m, 150 - e);
+        print_split(rt, m, 150 - e);
     } else if m == 0 {
-        put(b"0");
+        put(rt, b"0");
     } else {
-        print_scaled(m, b"-", 150 - e);
+        print_scaled(rt, m, b"-", 150 - e);
     }
 }
 
 // f and e are the fraction and the exponent of a float.
-fn print_parts(f: u64, e: u32)
+fn print_parts(rt: &impl Print, f: u64, e: u32)
     requires { f < 2 ^ 23 }
 {
     if e == 0 {
-        print_magnitude(f, 1);
+        print_magnitude(rt, f, 1);
     } else if e < 255 {
-        print_magnitude(f + 0x80_0000, e);
+        print_magnitude(rt, f + 0x80_0000, e);
     } else if f == 0 {
-        put(b"infinity");
+        put(rt, b"infinity");
     } else {
-        put(b"NaN");
+        put(rt, b"NaN");
     }
 }
 
 // The float that the bits write, exactly unless it ends in two points, and the bits.
-pub fn print_float(bits: u32) {
+pub fn print_float(rt: &impl Print, bits: u32) {
     if 0x8000_0000 <= bits {
-        put(b"-");
+        put(rt, b"-");
     }
     let low = bits % 0x8000_0000;
-    print_parts((low % 0x80_0000) as u64, low / 0x80_0000);
-    put(b" (0x");
-    io::print_hex(1, bits as u64, 8);
-    put(b")");
+    print_parts(rt, (low % 0x80_0000) as u64, low / 0x80_0000);
+    put(rt, b" (0x");
+    let _ = print!(rt; "{bits:08x}");
+    put(rt, b")");
 }

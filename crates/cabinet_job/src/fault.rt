@@ -2,9 +2,9 @@
 ghost use Rattle.std.specs.Prelude.{◌≡◌};
 ghost use Rattle.cabinet_job.specs.Job.{stops_at};
 
-use crate::decimal::put;
+use crate::decimal::{put, put_decimal};
 
-#[derive(Drop)]
+#[derive(Clone, Copy)]
 pub enum Fault {
     Usage,
     NoRecords,
@@ -25,7 +25,7 @@ pub enum Fault {
 }
 
 // How a part of the job ended.
-#[derive(Drop)]
+#[derive(Clone, Copy)]
 pub enum Outcome {
     Fine,
     Stop(Fault),
@@ -41,114 +41,114 @@ pub fn stops(o: Outcome) -> bool
 }
 
 // The paper's name of a refusal.
-fn say_name(number: u32) {
+fn say_name(rt: &impl Print, number: u32) {
     match number {
-        1 => put(b" BAD_DIMS"),
-        2 => put(b" BAD_WIDTH"),
-        3 => put(b" BAD_LENGTH"),
-        4 => put(b" MISSING"),
-        5 => put(b" BAD_VALUE"),
-        _ => say_late_name(number),
+        1 => put(rt, b" BAD_DIMS"),
+        2 => put(rt, b" BAD_WIDTH"),
+        3 => put(rt, b" BAD_LENGTH"),
+        4 => put(rt, b" MISSING"),
+        5 => put(rt, b" BAD_VALUE"),
+        _ => say_late_name(rt, number),
     }
 }
 
-fn say_late_name(number: u32) {
+fn say_late_name(rt: &impl Print, number: u32) {
     match number {
-        6 => put(b" OUT_OF_RANGE"),
-        7 => put(b" NO_ROOM"),
-        8 => put(b" NO_ESTIMATE"),
-        9 => put(b" NOT_ASKED"),
+        6 => put(rt, b" OUT_OF_RANGE"),
+        7 => put(rt, b" NO_ROOM"),
+        8 => put(rt, b" NO_ESTIMATE"),
+        9 => put(rt, b" NOT_ASKED"),
         _ => {}
     }
 }
 
 // The refusal's number and name.
-fn say_refusal(number: u32) {
-    put(b" is refused: ");
-    io::print_decimal(1, number as u64);
-    say_name(number);
-    put(b"\n");
+fn say_refusal(rt: &impl Print, number: u32) {
+    put(rt, b" is refused: ");
+    put_decimal(rt, number as u64);
+    say_name(rt, number);
+    put(rt, b"\n");
 }
 
-fn say_block(first: u32) {
-    put(b"records file: the block from record ");
-    io::print_decimal(1, first as u64);
-    put(b" on");
+fn say_block(rt: &impl Print, first: u32) {
+    put(rt, b"records file: the block from record ");
+    put_decimal(rt, first as u64);
+    put(rt, b" on");
 }
 
-fn say_distance(of: u64) {
-    put(b"distances file: the distance of record ");
-    io::print_decimal(1, of);
+fn say_distance(rt: &impl Print, of: u64) {
+    put(rt, b"distances file: the distance of record ");
+    put_decimal(rt, of);
 }
 
 // One line on standard output. First the command, and what a file as a whole lacks.
-fn say(f: Fault) {
+fn say(rt: &impl Print, f: Fault) {
     match f {
-        Fault::Usage => put(b"usage: cabinet RECORDS DISTANCES [WANTED]\n"),
-        Fault::NoRecords => put(b"records file: it can't be opened\n"),
-        Fault::NoDistances => put(b"distances file: it can't be opened\n"),
-        Fault::Longer => put(b"records file: it goes on after its last block\n"),
-        Fault::Floats => put(b"distances file: it isn't one float for each record\n"),
-        _ => say_in_header(f),
+        Fault::Usage => put(rt, b"usage: cabinet RECORDS DISTANCES [WANTED]\n"),
+        Fault::NoRecords => put(rt, b"records file: it can't be opened\n"),
+        Fault::NoDistances => put(rt, b"distances file: it can't be opened\n"),
+        Fault::Longer => put(rt, b"records file: it goes on after its last block\n"),
+        Fault::Floats => put(rt, b"distances file: it isn't one float for each record\n"),
+        _ => say_in_header(rt, f),
     }
 }
 
-fn say_in_header(f: Fault) {
+fn say_in_header(rt: &impl Print, f: Fault) {
     match f {
-        Fault::ShortHeader => put(b"records file: it ends inside the header\n"),
-        Fault::NoCabinet => put(b"records file: it doesn't begin with LKCAB001\n"),
+        Fault::ShortHeader => put(rt, b"records file: it ends inside the header\n"),
+        Fault::NoCabinet => put(rt, b"records file: it doesn't begin with LKCAB001\n"),
         Fault::Dims(number) => {
-            put(b"records file: the number of dims");
-            say_refusal(number);
+            put(rt, b"records file: the number of dims");
+            say_refusal(rt, number);
         }
-        Fault::ShortQuery => put(b"records file: it ends inside the query's codes\n"),
+        Fault::ShortQuery => put(rt, b"records file: it ends inside the query's codes\n"),
         Fault::Query(number) => {
-            put(b"records file: the query");
-            say_refusal(number);
+            put(rt, b"records file: the query");
+            say_refusal(rt, number);
         }
-        _ => say_of_record(f),
+        _ => say_of_record(rt, f),
     }
 }
 
-fn say_of_record(f: Fault) {
+fn say_of_record(rt: &impl Print, f: Fault) {
     match f {
         Fault::ShortBlock(first) => {
-            say_block(first);
-            put(b" is cut off\n");
+            say_block(rt, first);
+            put(rt, b" is cut off\n");
         }
         Fault::Block(first, number) => {
-            say_block(first);
-            say_refusal(number);
+            say_block(rt, first);
+            say_refusal(rt, number);
         }
         Fault::Lists(number) => {
-            put(b"the list of candidates");
-            say_refusal(number);
+            put(rt, b"the list of candidates");
+            say_refusal(rt, number);
         }
-        _ => say_of_distance(f),
+        _ => say_of_distance(rt, f),
     }
 }
 
-fn say_of_distance(f: Fault) {
+fn say_of_distance(rt: &impl Print, f: Fault) {
     match f {
         Fault::Unread(of) => {
-            say_distance(of);
-            put(b" can't be read\n");
+            say_distance(rt, of);
+            put(rt, b" can't be read\n");
         }
         Fault::Distance(of, number) => {
-            say_distance(of);
-            say_refusal(number);
+            say_distance(rt, of);
+            say_refusal(rt, number);
         }
         Fault::Below(of) => {
-            say_distance(of);
-            put(b" is below its lower bound\n");
+            say_distance(rt, of);
+            put(rt, b" is below its lower bound\n");
         }
         _ => {}
     }
 }
 
-pub fn say_outcome(o: Outcome) {
+pub fn say_outcome(rt: &impl Print, o: Outcome) {
     match o {
         Outcome::Fine => {}
-        Outcome::Stop(f) => say(f),
+        Outcome::Stop(f) => say(rt, f),
     }
 }

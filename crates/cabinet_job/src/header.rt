@@ -5,11 +5,14 @@ ghost use Rattle.words.specs.Limits.{most_dims};
 ghost use Rattle.cabinet_job.specs.Job.{most_block};
 
 use crate::fault::{Fault, Outcome};
+use crate::input::read_full;
 use crate::{fault, order, records};
+use std::io::{Read, Seek};
+use std::os::unix::fs::FileExt;
 use words::{MOST_DIMS, MOST_PLACES};
 
 // What the walk is asked for.
-#[derive(Drop)]
+#[derive(Clone, Copy)]
 pub struct Header {
     pub metric: u32,
     pub dims: u32,
@@ -53,13 +56,18 @@ fn size_of(dims: u32) -> Size
     }
 }
 
-pub fn job(records: i32, distances: i32, wanted: u32) -> Outcome {
+pub fn job<F: Seek + FileExt>(
+    rt: &impl Print,
+    records: &mut impl Read,
+    distances: &mut F,
+    wanted: u32,
+) -> Outcome {
     let mut head = [0u8; 32];
-    let n = io::read_full(records, &mut head);
+    let n = read_full(records, &mut head);
     if n < 32 {
         return Outcome::Stop(Fault::ShortHeader);
     }
-    if !check::same(&head[0..8], b"LKCAB001") {
+    if &head[0..8] != b"LKCAB001".as_slice() {
         return Outcome::Stop(Fault::NoCabinet);
     }
     let h = header_of(&head);
@@ -68,12 +76,13 @@ pub fn job(records: i32, distances: i32, wanted: u32) -> Outcome {
         return Outcome::Stop(Fault::Dims(s.refused));
     }
     let mut query = [0u8; MOST_DIMS as usize];
-    with_query(records, distances, wanted, h, s.bytes, &mut query)
+    with_query(rt, records, distances, wanted, h, s.bytes, &mut query)
 }
 
-fn with_query(
-    records: i32,
-    distances: i32,
+fn with_query<F: Seek + FileExt>(
+    rt: &impl Print,
+    records: &mut impl Read,
+    distances: &mut F,
     wanted: u32,
     h: Header,
     size: usize,
@@ -82,7 +91,7 @@ fn with_query(
     requires { (h.dims ≤ most_dims) × (size ≤ most_block) × (length query.old ≡ most_dims) }
 {
     let dims = h.dims as usize;
-    let n = io::read_full(records, &mut query[0..dims]);
+    let n = read_full(records, &mut query[0..dims]);
     if n < dims {
         return Outcome::Stop(Fault::ShortQuery);
     }
@@ -90,13 +99,14 @@ fn with_query(
     if refused != 0 {
         return Outcome::Stop(Fault::Query(refused));
     }
-    with_block(records, distances, wanted, h, size, &query[0..dims])
+    with_block(rt, records, distances, wanted, h, size, &query[0..dims])
 }
 
 // The block buffer is zeroed before the first read.
-fn with_block(
-    records: i32,
-    distances: i32,
+fn with_block<F: Seek + FileExt>(
+    rt: &impl Print,
+    records: &mut impl Read,
+    distances: &mut F,
     wanted: u32,
     h: Header,
     size: usize,
@@ -120,5 +130,13 @@ fn with_block(
     if fault::stops(o) {
         return o;
     }
-    order::rank(distances, wanted, h.n as usize, &ids, &bounds, &mut marks)
+    order::rank(
+        rt,
+        distances,
+        wanted,
+        h.n as usize,
+        &ids,
+        &bounds,
+        &mut marks,
+    )
 }

@@ -3,9 +3,11 @@ ghost use Rattle.std.specs.Prelude.{◌≡◌, ◌+◌, ◌*◌, ◌^◌, ◌<�
 ghost use Rattle.words.specs.Limits.{most_places};
 ghost use Rattle.cabinet_job.specs.Job.{FullLists};
 
-use crate::decimal::put;
+use crate::decimal::{put, put_decimal};
 use crate::fault::{Fault, Outcome};
 use crate::{decimal, fault};
+use std::io::{Seek, SeekFrom};
+use std::os::unix::fs::FileExt;
 use words::MOST_PLACES;
 
 const ASK: u32 = 1;
@@ -73,7 +75,7 @@ fn take(
 
 // The distance that was asked for is read and supplied.
 fn supply(
-    fd: i32,
+    file: &impl FileExt,
     ids: &[u8],
     bounds: &[u8],
     distances: &mut [u8],
@@ -82,15 +84,15 @@ fn supply(
 ) -> Step {
     let of = record_of(ids, place);
     let mut four = [0u8; 4];
-    if libc::pread(fd, &mut four, (4 * of) as i64) != 4 {
-        return stopped(Fault::Unread(of));
+    match file.read_at(&mut four, 4 * of) {
+        Ok(4) => take(bounds, distances, marks, place, of, words::f32_at(&four, 0)),
+        _ => stopped(Fault::Unread(of)),
     }
-    take(bounds, distances, marks, place, of, words::f32_at(&four, 0))
 }
 
 // One call of the reranker, and what it asks for. Its answer goes to out.
 fn turn(
-    fd: i32,
+    file: &impl FileExt,
     ids: &[u8],
     bounds: &[u8],
     distances: &mut [u8],
@@ -105,7 +107,7 @@ fn turn(
     }
     let answer = words::u32_at(out, 0);
     if answer == ASK {
-        return supply(fd, ids, bounds, distances, marks, words::u32_at(out, 4));
+        return supply(file, ids, bounds, distances, marks, words::u32_at(out, 4));
     }
     if answer == GIVE {
         return Step::Given;
@@ -115,7 +117,7 @@ fn turn(
 
 // One call whose answer goes to place g of given.
 fn turn_at(
-    fd: i32,
+    file: &impl FileExt,
     ids: &[u8],
     bounds: &[u8],
     distances: &mut [u8],
@@ -127,25 +129,26 @@ fn turn_at(
 {
     let at = 16 * g;
     let end = at + 16;
-    turn(fd, ids, bounds, distances, marks, &mut given[at..end])
+    turn(file, ids, bounds, distances, marks, &mut given[at..end])
 }
 
-fn print_given(ids: &[u8], rank: u64, place: u32, bits: u32) {
-    io::print_decimal(1, rank);
-    put(b". record ");
-    io::print_decimal(1, record_of(ids, place));
-    put(b" at ");
-    decimal::print_float(bits);
-    put(b"\n");
+fn print_given(rt: &impl Print, ids: &[u8], rank: u64, place: u32, bits: u32) {
+    put_decimal(rt, rank);
+    put(rt, b". record ");
+    put_decimal(rt, record_of(ids, place));
+    put(rt, b" at ");
+    decimal::print_float(rt, bits);
+    put(rt, b"\n");
 }
 
-fn print_all(ids: &[u8], given: &[u8], n: usize)
+fn print_all(rt: &impl Print, ids: &[u8], given: &[u8], n: usize)
     requires { 16 * n ≤ length given.now }
 {
     let mut i = 0usize;
     while i < n {
         let at = 16 * i;
         print_given(
+            rt,
             ids,
             i as u64 + 1,
             words::u32_at(given, at + 4),
@@ -168,15 +171,15 @@ fn waiting(marks: &[u8]) -> usize {
     n
 }
 
-fn print_tally(candidates: usize, given: usize, read: usize, spared: usize) {
-    io::print_decimal(1, given as u64);
-    put(b" of ");
-    io::print_decimal(1, candidates as u64);
-    put(b" candidates given, ");
-    io::print_decimal(1, read as u64);
-    put(b" distances read, ");
-    io::print_decimal(1, spared as u64);
-    put(b" spared\n");
+fn print_tally(rt: &impl Print, candidates: usize, given: usize, read: usize, spared: usize) {
+    put_decimal(rt, given as u64);
+    put(rt, b" of ");
+    put_decimal(rt, candidates as u64);
+    put(rt, b" candidates given, ");
+    put_decimal(rt, read as u64);
+    put(rt, b" distances read, ");
+    put_decimal(rt, spared as u64);
+    put(rt, b" spared\n");
 }
 
 // How many candidates were given, how many distances read, and how it ended.
@@ -190,7 +193,7 @@ pub struct Ranked {
 // Calls the reranker until as many as wanted are given. A list of n takes n distances and n gives. Given has the 16 bytes of each
 // answer that gives a candidate.
 fn give(
-    fd: i32,
+    file: &impl FileExt,
     wanted: usize,
     ids: &[u8],
     bounds: &[u8],
@@ -209,7 +212,7 @@ fn give(
         if g == wanted {
             break;
         }
-        let s = turn_at(fd, ids, bounds, distances, marks, given, g);
+        let s = turn_at(file, ids, bounds, distances, marks, given, g);
         match s {
             Step::Read => {
                 r += 1;
@@ -241,18 +244,32 @@ fn least(a: u32, b: usize) -> usize
     if x < b { x } else { b }
 }
 
+// Where the file ends; none where that can't be asked.
+fn end_of(file: &mut impl Seek) -> Option<u64> {
+    file.seek(SeekFrom::End(0)).ok()
+}
+
 // The first n places of the lists are the candidates.
-pub fn rank(fd: i32, wanted: u32, n: usize, ids: &[u8], bounds: &[u8], marks: &mut [u8]) -> Outcome
+pub fn rank<F: Seek + FileExt>(
+    rt: &impl Print,
+    file: &mut F,
+    wanted: u32,
+    n: usize,
+    ids: &[u8],
+    bounds: &[u8],
+    marks: &mut [u8],
+) -> Outcome
     requires n_le_most_places { n ≤ most_places }
     requires full_lists { FullLists ids.now bounds.now marks.old }
 {
     let four = 4 * n;
-    if libc::lseek(fd, 0, libc::SEEK_END) != four as i64 {
+    if end_of(file) != Some(four as u64) {
         return Outcome::Stop(Fault::Floats);
     }
     let mut distances = [0u8; 4 * MOST_PLACES];
     answer(
-        fd,
+        rt,
+        file,
         wanted,
         &ids[0..four],
         &bounds[0..four],
@@ -263,7 +280,8 @@ pub fn rank(fd: i32, wanted: u32, n: usize, ids: &[u8], bounds: &[u8], marks: &m
 
 // Nothing is printed before the end, so that a damaged file gets no part of a ranking.
 fn answer(
-    fd: i32,
+    rt: &impl Print,
+    file: &impl FileExt,
     wanted: u32,
     ids: &[u8],
     bounds: &[u8],
@@ -275,7 +293,7 @@ fn answer(
     let n = marks.len();
     let mut given = [0u8; 16 * MOST_PLACES];
     let got = give(
-        fd,
+        file,
         least(wanted, n),
         ids,
         bounds,
@@ -287,7 +305,7 @@ fn answer(
     if fault::stops(o) {
         return o;
     }
-    print_all(ids, &given, got.given);
-    print_tally(n, got.given, got.read, waiting(marks));
+    print_all(rt, ids, &given, got.given);
+    print_tally(rt, n, got.given, got.read, waiting(marks));
     Outcome::Fine
 }

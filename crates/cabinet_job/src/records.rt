@@ -6,6 +6,8 @@ ghost use Rattle.cabinet_job.specs.Job.{stops_at, FullLists};
 use crate::fault;
 use crate::fault::{Fault, Outcome};
 use crate::header::Header;
+use crate::input::read_full;
+use std::io::Read;
 use words::MOST_PLACES;
 
 // The records are blocks: the layout's number.
@@ -87,7 +89,7 @@ fn walk_on(
 
 // The next block, read and walked.
 fn next_block(
-    fd: i32,
+    from: &mut impl Read,
     h: Header,
     query: &[u8],
     block: &mut [u8],
@@ -101,7 +103,7 @@ fn next_block(
     requires full_lists { FullLists ids.old bounds.old marks.old }
     ensures { stops_at result ≡ false → have + m ≤ most_places }
 {
-    if io::read_full(fd, block) < block.len() {
+    if read_full(from, block) < block.len() {
         return Outcome::Stop(Fault::ShortBlock(have));
     }
     let refused = walk_on(h, query, block, have, m, ids, bounds, marks);
@@ -113,7 +115,7 @@ fn next_block(
 
 // All blocks, one after the other; the file ends with the last one. Every record becomes a candidate.
 pub fn load(
-    fd: i32,
+    from: &mut impl Read,
     h: Header,
     query: &[u8],
     block: &mut [u8],
@@ -128,14 +130,14 @@ pub fn load(
     let mut have: u32 = 0;
     while have < n {
         let m = records_in(have, n);
-        let o = next_block(fd, h, query, block, have, m, ids, bounds, marks);
+        let o = next_block(from, h, query, block, have, m, ids, bounds, marks);
         if fault::stops(o) {
             return o;
         }
         have += m;
     }
     let mut more = [0u8; 1];
-    if 0 < io::read_full(fd, &mut more) {
+    if 0 < read_full(from, &mut more) {
         return Outcome::Stop(Fault::Longer);
     }
     Outcome::Fine

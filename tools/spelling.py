@@ -6,7 +6,7 @@ usage: python3 tools/spelling.py            at the top of the repository, once, 
 - A name like `walkAnswer` becomes `walk_answer`, wherever it stands: in specs/, in proofs/, in the clauses and comments of src/, in must-fail edits and in pages.
 - A lemma like `words-more` becomes `words_more`, since `more` is a plain word. `length-words_of` keeps its dash: both are names.
 - A lemma that would fall together with another name gets `_lem` at its end.
-- A fact that is a type keeps its capital at the head of a lemma's name: `NotLess-trans`.
+- A fact that is a type keeps its capital at the head of a lemma's name: `NotLess_trans`.
 """
 
 import os

@@ -1,4 +1,4 @@
-// Module 5, the block of 32 codes: its public calls. The C functions of the crate lintelkite are these.
+// Module 5, the block of 32 codes: its public calls. The functions of the crate lintelkite are these.
 #![tactic(auto)]
 
 ghost use Rattle.std.specs.Prelude.{◌≡◌};

@@ -16,6 +16,7 @@ pub fn size(dims: usize) -> usize
 }
 
 // The lowest digits of a byte, as many as are left of the dims: the rest are pad bits.
+#[tactic(auto, using(crate::proofs::ClearedLaws::all_left))]
 fn cleared(x: u8, left: usize) -> u8
     ensures { result ≡ x % 2 ^ min 8 left }
 {

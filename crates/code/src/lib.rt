@@ -1,4 +1,4 @@
-// Module 4, the single code: its public calls. The C functions of the crate lintelkite are these.
+// Module 4, the single code: its public calls. The functions of the crate lintelkite are these.
 #![tactic(auto)]
 
 ghost use Rattle.std.specs.Prelude.{◌≡◌};

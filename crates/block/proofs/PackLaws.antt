@@ -8,7 +8,6 @@ use lib.ListN.{get_or}
 use borrow.Author.Tests.{lt-ltb, le-ltb}
 use Rattle.words.specs.Digits.{bit, join, kept}
 use Rattle.words.specs.Lists.{record_of}
-use Rattle.words.proofs.ListLaws.{record_byte}
 use Rattle.words.proofs.DigitLaws.{lt_or_ge, kept-lt, bits_lt, join_ext, join_kept, join_halves}
 use Rattle.code.specs.Code.{code_size, code_bit}
 use Rattle.code.proofs.CodeLaws.{code-bit-lt, byte_bit}
@@ -34,10 +33,10 @@ half-join f two g =
     four i e = omega arith
 
 -- the nibble of code k in group g, from the byte of the code's words that holds it
-pub nibble_of : (dims : ℕ) (codes : List ℕ) (g k y : ℕ) → 16 + g / 2 < code_size dims → y ≡ get_or codes (code_size dims * k + 16 + g / 2) 0
+pub nibble_of : (dims : ℕ) (codes : List ℕ) (g k y : ℕ) → y ≡ get_or (record_of (code_size dims) codes k) (16 + g / 2) 0
     → y % 2 ^ min 8 (dims - 8 * (g / 2)) / 16 ^ (g % 2) % 16 ≡ group_nibble dims (λ k. code_bit (record_of (code_size dims) codes k)) g k
 unfolding group_nibble
-nibble_of dims codes g k y l e =
+nibble_of dims codes g k y e =
     ap (λ (x : ℕ). x / 16 ^ (g % 2) % 16) (sym (join_kept 8 dims (8 * (g / 2)) y b digits))
     ∙ half-join (λ j. kept dims b (8 * (g / 2) + j)) (λ j. kept-lt dims b (code-bit-lt (record_of (code_size dims) codes k)) (8 * (g / 2) + j)) g
     ∙ join_ext 1 4 (λ i. kept dims b (8 * (g / 2) + (4 * (g % 2) + i))) (λ i. kept dims b (4 * g + i)) (λ i _. ap (kept dims b) (place i))
@@ -45,27 +44,24 @@ nibble_of dims codes g k y l e =
     b : ℕ → ℕ
     b = code_bit (record_of (code_size dims) codes k)
 
-    here : get_or (record_of (code_size dims) codes k) (16 + g / 2) 0 ≡ y
-    here = record_byte (code_size dims) codes k (16 + g / 2) l ∙ ap (λ (x : ℕ). get_or codes x 0) (omega arith) ∙ sym e
-
     digits : (j : ℕ) → j < 8 → b (8 * (g / 2) + j) ≡ bit y j
-    digits j h = byte_bit (record_of (code_size dims) codes k) (g / 2) j h ∙ ap (λ (x : ℕ). bit x j) here
+    digits j h = byte_bit (record_of (code_size dims) codes k) (g / 2) j h ∙ ap (λ (x : ℕ). bit x j) (sym e)
 
     place : (i : ℕ) → 8 * (g / 2) + (4 * (g % 2) + i) ≡ 4 * g + i
     place i = omega arith
 
 -- the two kinds of bytes of a block
 pub packed_factor : (dims : ℕ) (codes : List ℕ) (i : ℕ) → i < 512
-    → packed_block_byte dims codes i ≡ get_or codes (code_size dims * (i % 128 / 4) + (4 * (i / 128) + i % 4)) 0
+    → packed_block_byte dims codes i ≡ get_or (record_of (code_size dims) codes (i % 128 / 4)) (4 * (i / 128) + i % 4) 0
 unfolding packed_block_byte block_byte
-packed_factor dims codes i l = rw (lt-ltb i 512 l) (record_byte (code_size dims) codes (i % 128 / 4) (4 * (i / 128) + i % 4) (omega arith))
+packed_factor dims codes i l = rw (lt-ltb i 512 l)
 
-pub packed_group : (dims : ℕ) (codes : List ℕ) (g j low high : ℕ) → j < 16 → low ≡ group_nibble dims (λ k. code_bit (record_of (code_size dims) codes k)) g j
-    → high ≡ group_nibble dims (λ k. code_bit (record_of (code_size dims) codes k)) g (j + 16) → low + 16 * high ≡ packed_block_byte dims codes (512 + 16 * g + j)
+pub packed_group : (dims : ℕ) (codes : List ℕ) (g j : ℕ) → j < 16
+    → packed_block_byte dims codes (512 + 16 * g + j) ≡ group_nibble dims (λ k. code_bit (record_of (code_size dims) codes k)) g j
+    + 16 * group_nibble dims (λ k. code_bit (record_of (code_size dims) codes k)) g (j + 16)
 unfolding packed_block_byte block_byte group_byte
-packed_group dims codes g j low high l e f =
+packed_group dims codes g j l =
     let past : 512 ≤ 512 + 16 * g + j = omega arith in
     let group : (512 + 16 * g + j - 512) / 16 ≡ g = omega arith in
     let lane : (512 + 16 * g + j - 512) % 16 ≡ j = omega arith in
-    ap₂ (λ (x y : ℕ). x + 16 * y) e f
-    ∙ sym (rw (le-ltb (512 + 16 * g + j) 512 past) (ap₂ (group_byte dims (λ k. code_bit (record_of (code_size dims) codes k))) group lane))
+    rw (le-ltb (512 + 16 * g + j) 512 past) (ap₂ (group_byte dims (λ k. code_bit (record_of (code_size dims) codes k))) group lane)

@@ -4,6 +4,12 @@ use Rattle.words.specs.Lists.{record_of}
 use Rattle.code.specs.Code.{code_size, code_bit}
 use Rattle.block.specs.Block.{block_byte}
 
+-- lane k of a block of dims dimensions
+pub record LaneOf : Type 0 where
+  pub dims : ℕ
+  pub block : List ℕ
+  pub k : ℕ
+
 -- byte i of the block built from 32 codes laid end to end
 unfoldable pub packed_block_byte : ℕ → List ℕ → ℕ → ℕ
 packed_block_byte dims codes =

@@ -1,4 +1,3 @@
 pub mod PowerLaws
 pub mod SizeLaws
-pub mod StopLaws
 pub mod RoomLaws

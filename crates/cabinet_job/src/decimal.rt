@@ -1,146 +1,76 @@
-// Numbers as text: a decimal number read, and a float printed.
-ghost use Rattle.std.specs.Prelude.{◌+◌, ◌-◌, ◌*◌, ◌^◌, ◌<◌, ◌≤◌, ◌≡◌};
+// A float as text.
+ghost use Rattle.std.specs.Prelude.{◌^◌, ◌<◌, ◌≤◌};
 
-#[derive(Drop)]
-pub enum Number {
-    Is(u32),
-    Not,
-}
+use std::fmt;
 
-// A write that fails is passed over, here and in all that prints.
-pub fn put(rt: &impl Print, s: &[u8]) {
-    let _ = rt.write_all(s);
-}
+// A float, shown in decimal, exactly unless that ends in two points, and with its bits. `{}` of an f32 would show the shortest decimal.
+#[derive(Clone, Copy, Debug, PartialEq)]
+pub struct Decimal(pub f32);
 
-pub fn put_decimal(rt: &impl Print, n: u64) {
-    let _ = print!(rt; "{n}");
-}
-
-// The value so far with one digit more. Nine digits stay below 2^32.
-fn with_digit(n: u32, c: u8) -> u32
-    requires { (n < 100000000) × (48 ≤ c) × (c ≤ 57) }
-    ensures { result ≡ 10 * n + (c - 48) }
-{
-    10 * n + (c - 48) as u32
-}
-
-// The decimal number of at most nine digits that s is.
-pub fn read(s: &[u8]) -> Number {
-    if s.len() == 0 {
-        return Number::Not;
-    }
-    let mut n: u32 = 0;
-    let mut i = 0usize;
-    while i < s.len() {
-        let c = s[i];
-        if c < 48 {
-            return Number::Not;
+impl fmt::Display for Decimal {
+    fn fmt<W: fmt::Write>(&self, f: &mut fmt::Formatter<W>) -> fmt::Result {
+        let x = self.0;
+        if x.is_nan() {
+            return f.write_str("NaN");
         }
-        if 57 < c {
-            return Number::Not;
+        let bits = x.to_bits();
+        if 0x8000_0000 <= bits {
+            f.write_str("-")?;
         }
-        if 99999999 < n {
-            return Number::Not;
+        let magnitude = bits % 0x8000_0000;
+        let fraction = u64::from(magnitude % 0x80_0000);
+        match magnitude / 0x80_0000 {
+            255 => f.write_str("infinity")?,
+            0 => write_product(f, fraction, 1)?,
+            exponent => write_product(f, fraction + 0x80_0000, exponent)?,
         }
-        n = with_digit(n, c);
-        i += 1;
+        write!(f, " (0x{bits:08x})")
     }
-    Number::Is(n)
-}
-
-// 2^k.
-fn two_to(k: u32) -> u64
-    requires { k ≤ 60 }
-    ensures { (result ≡ 2 ^ k) × (0 < result) × (result ≤ 2 ^ 60) }
-{
-    let mut p: u64 = 1;
-    let mut i: u32 = 0;
-    while i < k {
-        p = 2 * p;
-        i += 1;
-    }
-    p
-}
-
-// A point and the decimal digits of rest / unit: all of them, or nine and two points where there are more.
-fn print_fraction(rt: &impl Print, rest: u64, unit: u64)
-    requires { (rest < unit) × (unit ≤ 2 ^ 60) }
-{
-    if rest == 0 {
-        return;
-    }
-    put(rt, b".");
-    let mut left = rest;
-    let mut n: u32 = 0;
-    while n < 9 {
-        if left == 0 {
-            return;
-        }
-        put_decimal(rt, 10 * left / unit);
-        left = 10 * left % unit;
-        n += 1;
-    }
-    if 0 < left {
-        put(rt, b"..");
-    }
-}
-
-// m / 2^k.
-fn print_split(rt: &impl Print, m: u64, k: u32)
-    requires { k ≤ 60 }
-{
-    let unit = two_to(k);
-    put_decimal(rt, m / unit);
-    print_fraction(rt, m % unit, unit);
-}
-
-fn print_scaled(rt: &impl Print, m: u64, sign: &[u8], k: u32) {
-    put_decimal(rt, m);
-    put(rt, b" x 2^");
-    put(rt, sign);
-    put_decimal(rt, k as u64);
 }
 
 // m * 2^(e - 150): in decimal, or as that product where it is at least 2^64 or has more than 60 binary places.
-fn print_magnitude(rt: &impl Print, m: u64, e: u32)
+#[tactic(auto, using(crate::proofs::PowerLaws::times_fits))]
+fn write_product<W: fmt::Write>(f: &mut fmt::Formatter<W>, m: u64, e: u32) -> fmt::Result
     requires { m < 2 ^ 24 }
 {
-    if 190 < e {
-        print_scaled(rt, m, b"", e - 150);
-    } else if 150 <= e {
-        put_decimal(rt, m * two_to(e - 150));
-    } else if 90 <= e {
-        print_split(rt, m, 150 - e);
-    } else if m == 0 {
-        put(rt, b"0");
-    } else {
-        print_scaled(rt, m, b"-", 150 - e);
+    match e {
+        191.. => {
+            let power = e - 150;
+            write!(f, "{m} x 2^{power}")
+        }
+        150..=190 => {
+            let whole = m * 2u64.pow(e - 150);
+            write!(f, "{whole}")
+        }
+        90..=149 => write_quotient(f, m, 150 - e),
+        _ if m == 0 => f.write_str("0"),
+        _ => {
+            let power = 150 - e;
+            write!(f, "{m} x 2^-{power}")
+        }
     }
 }
 
-// f and e are the fraction and the exponent of a float.
-fn print_parts(rt: &impl Print, f: u64, e: u32)
-    requires { f < 2 ^ 23 }
+// m / 2^k: all its decimal digits, or nine after the point and two points where there are more.
+#[tactic(auto, using(crate::proofs::PowerLaws::pow_fits))]
+fn write_quotient<W: fmt::Write>(f: &mut fmt::Formatter<W>, m: u64, k: u32) -> fmt::Result
+    requires { k ≤ 60 }
 {
-    if e == 0 {
-        print_magnitude(rt, f, 1);
-    } else if e < 255 {
-        print_magnitude(rt, f + 0x80_0000, e);
-    } else if f == 0 {
-        put(rt, b"infinity");
-    } else {
-        put(rt, b"NaN");
+    let unit = 2u64.pow(k);
+    let whole = m / unit;
+    let mut rest = m % unit;
+    write!(f, "{whole}")?;
+    if rest == 0 {
+        return Ok(());
     }
-}
-
-// The float that the bits write, exactly unless it ends in two points, and the bits.
-pub fn print_float(rt: &impl Print, bits: u32) {
-    if 0x8000_0000 <= bits {
-        put(rt, b"-");
+    f.write_str(".")?;
+    for _ in 0..9 {
+        if rest == 0 {
+            return Ok(());
+        }
+        let digit = 10 * rest / unit;
+        rest = 10 * rest % unit;
+        write!(f, "{digit}")?;
     }
-    let low = bits % 0x8000_0000;
-    print_parts(rt, (low % 0x80_0000) as u64, low / 0x80_0000);
-    put(rt, b" (0x");
-    let _ = print!(rt; "{bits:08x}");
-    put(rt, b")");
+    if rest == 0 { Ok(()) } else { f.write_str("..") }
 }

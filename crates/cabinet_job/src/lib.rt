@@ -14,90 +14,69 @@
 // The distances file: n floats, that of record 0 first, and nothing after them.
 #![tactic(auto)]
 
-mod decimal;
-mod fault;
-mod header;
-mod input;
-mod order;
-mod records;
-
-use decimal::Number;
-use fault::{Fault, Outcome};
+use fault::Fault;
+use job::Job;
+use lists::Lists;
 use std::env::{Env, FillError};
 use std::fs;
-use std::io::{Read, Seek};
 use std::os::unix::fs::FileExt;
 use std::rt::Files;
 
+mod decimal;
+mod fault;
+mod job;
+mod lists;
+mod order;
+
 // The first argument names the records file, the second the distances file; the third, if there is one, says how many candidates
-// are wanted. A name that is no UTF-8 text can't be opened.
+// are wanted. A name that is no UTF-8 text can't be opened. A write that fails is passed over.
 pub fn run<R: Env + Files + Print>(rt: &R)
 where
     R::File: FileExt,
 {
-    fault::say_outcome(rt, open_records(rt));
-}
-
-// The file of that name, open to be read.
-fn opened<R: Files>(rt: &R, name: &[u8]) -> Option<R::File> {
-    match str::from_utf8(name) {
-        Ok(path) => fs::open(rt, path).ok(),
-        Err(_) => None,
+    if let Err(fault) = rank(rt) {
+        let _ = println!(rt; "{fault}");
     }
 }
 
-fn open_records<R: Env + Files + Print>(rt: &R) -> Outcome
+// Nothing is printed before the end, so that a damaged file gets no part of a ranking.
+fn rank<R: Env + Files + Print>(rt: &R) -> Result<(), Fault>
 where
     R::File: FileExt,
 {
-    let mut name = [0u8; 4096];
-    let n = match rt.arg(1, &mut name) {
-        Ok(n) => n,
-        Err(_) => return Outcome::Stop(Fault::Usage),
-    };
-    match opened(rt, &name[..n]) {
-        Some(mut file) => open_distances(rt, &mut file),
-        None => Outcome::Stop(Fault::NoRecords),
-    }
+    let mut records = opened(rt, 1, Fault::NoRecords)?;
+    let mut distances = opened(rt, 2, Fault::NoDistances)?;
+    let wanted = wanted(rt)?;
+    let job = Job::read(&mut records)?;
+    let mut lists = Lists::read(&job, &mut records)?;
+    let ranking = order::rank(&mut distances, wanted, &mut lists)?;
+    let _ = ranking.print(rt, &lists);
+    Ok(())
 }
 
-fn open_distances<R: Env + Files + Print>(rt: &R, records: &mut impl Read) -> Outcome
-where
-    R::File: FileExt,
-{
+// The file that argument i names, open to be read. No heap: there is room for the longest path.
+fn opened<R: Env + Files>(rt: &R, i: usize, unopened: Fault) -> Result<R::File, Fault> {
     let mut name = [0u8; 4096];
-    let n = match rt.arg(2, &mut name) {
-        Ok(n) => n,
-        Err(_) => return Outcome::Stop(Fault::Usage),
-    };
-    match opened(rt, &name[..n]) {
-        Some(mut file) => with_wanted(rt, records, &mut file),
-        None => Outcome::Stop(Fault::NoDistances),
-    }
+    let n = rt.arg(i, &mut name).map_err(|_| Fault::Usage)?;
+    let path = str::from_utf8(&name[..n]).map_err(|_| unopened)?;
+    fs::open(rt, path).map_err(|_| unopened)
 }
 
-fn with_wanted<F: Seek + FileExt>(
-    rt: &(impl Env + Print),
-    records: &mut impl Read,
-    distances: &mut F,
-) -> Outcome {
+// How many candidates are wanted: argument 3, of at most nine digits, or ten. It is the last one.
+fn wanted(rt: &impl Env) -> Result<usize, Fault> {
+    if !matches!(rt.arg(4, &mut []), Err(FillError::NotPresent)) {
+        return Err(Fault::Usage);
+    }
     let mut text = [0u8; 9];
-    if is_given(rt, 4) {
-        return Outcome::Stop(Fault::Usage);
-    }
     let n = match rt.arg(3, &mut text) {
         Ok(n) => n,
-        Err(FillError::NotPresent) => return header::job(rt, records, distances, 10),
-        Err(FillError::TooLong) => return Outcome::Stop(Fault::Usage),
+        Err(FillError::NotPresent) => return Ok(10),
+        Err(FillError::TooLong) => return Err(Fault::Usage),
     };
-    match decimal::read(&text[..n]) {
-        Number::Is(wanted) => header::job(rt, records, distances, wanted),
-        Number::Not => Outcome::Stop(Fault::Usage),
+    let digits = str::from_utf8(&text[..n]).map_err(|_| Fault::Usage)?;
+    // `parse` takes a sign
+    if digits.starts_with('+') {
+        return Err(Fault::Usage);
     }
-}
-
-// Whether the command has argument i.
-fn is_given(rt: &impl Env, i: usize) -> bool {
-    let mut none = [0u8; 0];
-    !matches!(rt.arg(i, &mut none), Err(FillError::NotPresent))
+    digits.parse().map_err(|_| Fault::Usage)
 }

@@ -1,12 +1,14 @@
 -- Laws of the single code's layout. Assumes nothing.
 use mathlib.Core.Path.{◌≡◌, sym, ap, ap₂, ◌∙◌}
-use Prim.Native.Nat.{ℕ, zero, suc, ◌+◌, ◌-◌, ◌*◌, ◌/◌, ◌%◌, ◌<◌, ◌≤◌}
+use Prim.Native.Nat.{ℕ, zero, suc, ◌+◌, ◌-◌, ◌*◌, ◌/◌, ◌%◌, ◌^◌, ◌<◌, ◌≤◌}
 use mathlib.Core.List.{List}
 use native.Mathlib.Omega.{arith}
 use native.Mathlib.Nat.{not-suc-le-zero, le_of_suc-le-suc, add-zero, zero-add}
 use mathlib.Core.Logic.{⊎_elim}
 use lib.ListN.{length, get_or, drop}
 use lib.Seq.{get_or-drop}
+use lib.Dec.{ltb}
+use mir.Val.{bool_byte}
 use borrow.Author.Tests.{lt-ltb, le-ltb}
 use Rattle.words.specs.Bytes.{num_at}
 use Rattle.words.specs.Digits.{bit, join, kept}
@@ -138,3 +140,10 @@ code_cleared dims code size byte pad =
 pub sign_lt : (v : List ℕ) (d : ℕ) → sign_clear v d < 2
 unfolding sign_clear
 sign_lt v d = omega arith
+
+-- ---- a byte of a code that is made of a vector
+
+pub sign_kept : (v : List ℕ) (dims d x : ℕ) → x < 2 ^ 32 → d < dims → x ≡ num_at 4 v (4 * d)
+    → (bool_byte (ltb x 0x8000_0000) ≡ kept dims (sign_clear v) d) × (bool_byte (ltb x 0x8000_0000) < 2)
+unfolding sign_clear
+sign_kept v dims d x h l e = rw (kept_in dims (sign_clear v) d l, ← e) (⊎_elim (λ a. rw (lt-ltb x 0x8000_0000 a) (omega arith, omega arith)) (λ a. rw (le-ltb x 0x8000_0000 a) (omega arith, omega arith)) (lt_or_ge x 0x8000_0000))

@@ -10,7 +10,7 @@ factors_at code = record { dis_u_2 = f32_at code 0; factor_ppc = f32_at code 1; 
 
 -- those that a reader keeps
 abbrev pub kept_factors : Code → Factors
-kept_factors c = record { dis_u_2 = c.dis_u_2; factor_ppc = c.factor_ppc; factor_ip = c.factor_ip; factor_err = c.factor_err }
+kept_factors c = c.factors
 
 -- the word bytes of a code
 abbrev pub words_at : List ℕ → List ℕ

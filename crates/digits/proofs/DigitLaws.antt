@@ -1,6 +1,6 @@
 -- Laws of specs/Digits, each proved once over the width: codes joined in a number, read back out of it, and out of the
 -- packed bytes. Assumes nothing.
-use Prim.Native.Nat.{ℕ, ◌+◌, ◌*◌, ◌/◌, ◌%◌, ◌^◌, ◌<◌, ◌≤◌}
+use Prim.Native.Nat.{ℕ, ◌+◌, ◌-◌, ◌*◌, ◌/◌, ◌%◌, ◌^◌, ◌<◌, ◌≤◌}
 use mathlib.Core.Bool.{Bool, true, false, ◌||◌}
 use mathlib.Core.List.{List}
 use mathlib.Core.Path.{◌≡◌, refl, sym, ap, ◌∙◌, subst}
@@ -14,9 +14,7 @@ use Rattle.words.specs.Digits.{join}
 use Rattle.words.specs.Lists.{any_above}
 use Rattle.words.proofs.DigitLaws.{digit_more, join_pad, join_digit}
 use Rattle.words.proofs.ListLaws.{none_above, length-tabulate, tabulate-at}
-use Rattle.digits.specs.declared.Width.{Width}
-use Rattle.digits.specs.declared.Width.TheVariants.{One, Two, Four, Eight}
-use Rattle.digits.specs.Digits.{bits_of, is_width, levels, top, per_byte, packed_size, digit_at, packed_byte, packed}
+use Rattle.digits.specs.Digits.{is_width, levels, top, per_byte, packed_size, digit_at, packed_byte, packed}
 
 -- ---- the four widths
 
@@ -32,17 +30,21 @@ by_width P p₁ p₂ p₄ p₈ w h = go (eqb w 1) (eqb w 2) (eqb w 4) (eqb w 8) 
     go false false false true f g k l e = rw (l refl) p₈
     go false false false false f g k l e = absurd (subst T (sym e) tt)
 
-pub is_width_lem : (w : Width) → is_width (bits_of w) ≡ true
-unfolding is_width
-is_width_lem One = refl
-is_width_lem Two = refl
-is_width_lem Four = refl
-is_width_lem Eight = refl
+pub width_le : (w : ℕ) → is_width w ≡ true → w ≤ 8
+width_le w h = by_width (λ w. w ≤ 8) (omega arith) (omega arith) (omega arith) (omega arith) w h
+
+pub only_eight : (w : ℕ) → is_width w ≡ true → (w ≡ 1 → ⊥) → (w ≡ 2 → ⊥) → (w ≡ 4 → ⊥) → w ≡ 8
+only_eight w h = by_width (λ w. (w ≡ 1 → ⊥) → (w ≡ 2 → ⊥) → (w ≡ 4 → ⊥) → w ≡ 8) (λ a b c. absurd (a refl)) (λ a b c. absurd (b refl))
+    (λ a b c. absurd (c refl)) (λ a b c. refl) w h
 
 -- the byte of a digit is within the packed bytes
 pub within : (w i dims : ℕ) → is_width w ≡ true → i < dims → i / per_byte w < packed_size w dims
 within w i dims h l =
     by_width (λ w. i / per_byte w < packed_size w dims) (omega arith) (omega arith) (omega arith) (omega arith) w h
+
+pub digit_place : (w i : ℕ) → is_width w ≡ true → (i * w / 8 ≡ i / per_byte w) × (i * w ≤ i * 8)
+digit_place w i h = by_width (λ w. (i * w / 8 ≡ i / per_byte w) × (i * w ≤ i * 8))
+    (omega arith, omega arith) (omega arith, omega arith) (omega arith, omega arith) (omega arith, omega arith) w h
 
 -- a digit by the place of its first bit
 pub digit_from : (w : ℕ) (s : List ℕ) (i : ℕ) → is_width w ≡ true → get_or s (i * w / 8) 0 / 2 ^ (i * w % 8) % levels w ≡ digit_at w s i
@@ -60,9 +62,6 @@ pub join-turn : (w j p x y : ℕ) (f : ℕ → ℕ) → is_width w ≡ true → 
 join-turn w j p x y f h small l =
     digit_more w 8 j p x y f small
     (by_width (λ w. j < per_byte w → w * j + w ≤ 8) (λ k. omega arith) (λ k. omega arith) (λ k. omega arith) (λ k. omega arith) w h l)
-
-pub place_lt : (w j : ℕ) → is_width w ≡ true → j < per_byte w → w * j < 8
-place_lt w j h l = by_width (λ w. j < per_byte w → w * j < 8) (λ k. omega arith) (λ k. omega arith) (λ k. omega arith) (λ k. omega arith) w h l
 
 -- ---- packed codes
 
@@ -84,13 +83,6 @@ per_pos w h = by_width (λ w. 0 < per_byte w) (omega arith) (omega arith) (omega
 pub per_le : (w : ℕ) → is_width w ≡ true → per_byte w ≤ 8
 per_le w h = by_width (λ w. per_byte w ≤ 8) (omega arith) (omega arith) (omega arith) (omega arith) w h
 
--- the next byte's first code
-pub next_place : (w k at per : ℕ) → at ≡ k * per_byte w → per ≡ per_byte w → at + per ≡ (k + 1) * per_byte w
-next_place w k at per e f = rw (e, f) (go k (per_byte w))
-  where
-    go : (k p : ℕ) → k * p + p ≡ (k + 1) * p
-    go k p = omega arith
-
 -- THE LAW OF MODULE 1: reading digit i of what was packed gives code i, and past the last code 0: the fill bits are zero
 pub read_packed : (w : ℕ) (codes : List ℕ) → is_width w ≡ true → any_above (top w) codes ≡ false
     → (i : ℕ) → digit_at w (packed w codes) i ≡ get_or codes i 0
@@ -111,35 +103,30 @@ read_packed w codes h fits i = go (ltb (i / per_byte w) (packed_size w (length c
         let z : get_or (packed w codes) (i / per_byte w) 0 ≡ 0 = get_or-eq_default (packed w codes) 0 (rw (packed-length w codes) out) in
         rw (z, get_or-eq_default codes 0 past) (rw (zero-div, zero-mod) refl)
 
--- ---- the loop that packs: k bytes are done, and the next code is at place k * per_byte w
+-- ---- the loop that packs n codes: a byte a turn, and then the codes that are left
 
-pub room : (w k at n : ℕ) → is_width w ≡ true → at ≡ k * per_byte w → at < n → k < packed_size w n
-room w k at n h e l = go (rw e at l)
-  where
-    go : k * per_byte w < n → k < packed_size w n
-    go l = by_width (λ w. k * per_byte w < n → k < packed_size w n) (λ l. omega arith) (λ l. omega arith) (λ l. omega arith) (λ l. omega arith) w h l
+module _ (w n : ℕ) (h : is_width w ≡ true) where
+  -- byte k of the whole ones
+  pub whole_byte : (k : ℕ) → k < n / per_byte w → (k * per_byte w + per_byte w ≤ n) × (k < packed_size w n)
+  whole_byte k = by_width (λ w. k < n / per_byte w → (k * per_byte w + per_byte w ≤ n) × (k < packed_size w n))
+      (λ l. (omega arith, omega arith)) (λ l. (omega arith, omega arith)) (λ l. (omega arith, omega arith)) (λ l. (omega arith, omega arith)) w h
 
-pub all_done : (w k at n : ℕ) → is_width w ≡ true → at ≡ k * per_byte w → at ≡ n → packed_size w n ≡ k
-all_done w k at n h e l = go (sym e ∙ l)
-  where
-    go : k * per_byte w ≡ n → packed_size w n ≡ k
-    go l = by_width (λ w. k * per_byte w ≡ n → packed_size w n ≡ k) (λ l. omega arith) (λ l. omega arith) (λ l. omega arith) (λ l. omega arith) w h l
+  -- how many bytes there are, by whether codes are left
+  pub none_left : n ≤ n / per_byte w * per_byte w → packed_size w n ≡ n / per_byte w
+  none_left = by_width (λ w. n ≤ n / per_byte w * per_byte w → packed_size w n ≡ n / per_byte w)
+      (λ l. omega arith) (λ l. omega arith) (λ l. omega arith) (λ l. omega arith) w h
 
-pub one_left : (w k at n : ℕ) → is_width w ≡ true → at ≡ k * per_byte w → at < n → n < at + per_byte w → packed_size w n ≡ k + 1
-one_left w k at n h e l m = go (rw e at l) (rw e at m)
-  where
-    go : k * per_byte w < n → n < k * per_byte w + per_byte w → packed_size w n ≡ k + 1
-    go l m = by_width (λ w. k * per_byte w < n → n < k * per_byte w + per_byte w → packed_size w n ≡ k + 1) (λ l m. omega arith) (λ l m. omega arith)
-        (λ l m. omega arith) (λ l m. omega arith) w h l m
+  pub some_left : n / per_byte w * per_byte w < n → (packed_size w n ≡ n / per_byte w + 1) × (n - n / per_byte w * per_byte w ≤ per_byte w)
+  some_left = by_width (λ w. n / per_byte w * per_byte w < n → (packed_size w n ≡ n / per_byte w + 1) × (n - n / per_byte w * per_byte w ≤ per_byte w))
+      (λ l. (omega arith, omega arith)) (λ l. (omega arith, omega arith)) (λ l. (omega arith, omega arith)) (λ l. (omega arith, omega arith)) w h
 
--- the byte of n codes from place at on: a full one, or the last one, past which the codes are 0
-pub full_byte : (w k at per : ℕ) (codes : List ℕ) → at ≡ k * per_byte w → per ≡ per_byte w
-    → join w per (λ j. get_or codes (at + j) 0) ≡ packed_byte w codes k
+-- the byte of n codes from its first place on: a full one, or the last one, past which the codes are 0
+pub full_byte : (w k : ℕ) (codes : List ℕ) → join w (per_byte w) (λ j. get_or codes (k * per_byte w + j) 0) ≡ packed_byte w codes k
 unfolding packed_byte
-full_byte w k at per codes e f = rw (e, f) refl
+full_byte w k codes = refl
 
-pub last_byte : (w k at n : ℕ) (codes : List ℕ) → at ≡ k * per_byte w → n ≤ per_byte w → at + n ≡ length codes
-    → join w n (λ j. get_or codes (at + j) 0) ≡ packed_byte w codes k
-last_byte w k at n codes e l f =
-    sym (join_pad w n (per_byte w) (λ j. get_or codes (at + j) 0) l (λ j m. get_or-eq_default codes 0 (omega arith)))
-    ∙ full_byte w k at (per_byte w) codes e refl
+pub last_byte : (w k n : ℕ) (codes : List ℕ) → n ≤ per_byte w → k * per_byte w + n ≡ length codes
+    → join w n (λ j. get_or codes (k * per_byte w + j) 0) ≡ packed_byte w codes k
+last_byte w k n codes l f =
+    sym (join_pad w n (per_byte w) (λ j. get_or codes (k * per_byte w + j) 0) l (λ j m. get_or-eq_default codes 0 (omega arith)))
+    ∙ full_byte w k codes

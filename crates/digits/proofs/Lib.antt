@@ -1,3 +1,2 @@
 pub mod DigitLaws
-pub mod CallLaws
 pub mod WholeLaws

@@ -11,10 +11,6 @@ use Rattle.words.specs.Sums.{sum_to}
 use Rattle.words.proofs.DigitLaws.{join-lt}
 
 -- bytes are digits of 8 bits
-pub two_bytes : (s : List ℕ) (at : ℕ) → num_at 2 s at ≡ join 8 2 (λ j. get_or s (at + j) 0)
-unfolding num_at join sum_to
-two_bytes s at = simp (add_assoc, add-zero) (omega arith)
-
 pub four_bytes : (s : List ℕ) (at : ℕ) → num_at 4 s at ≡ join 8 4 (λ j. get_or s (at + j) 0)
 unfolding num_at join sum_to
 four_bytes s at = simp (add_assoc, add-zero) (omega arith)

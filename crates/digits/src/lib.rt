@@ -1,26 +1,40 @@
 // Module 1: codes of 1, 2, 4 or 8 bits in bytes.
 #![tactic(auto)]
 
-ghost use Rattle.std.specs.Prelude.{◌≡◌};
-ghost use Rattle.digits.specs.Found.{found_bits};
+ghost use Rattle.std.specs.Prelude.{◌≡◌, ◌≤◌};
+ghost use Rattle.words.specs.Refusals.{status};
+ghost use Rattle.digits.specs.Found.{WidthOf};
 ghost use Rattle.digits.specs.Digits.{bits_of, top};
 ghost use Rattle.digits.specs.Calls.{size_answer, pack_answer, read_answer};
+
+use words::{Dims, MOST_SCALAR_DIMS, Refusal, has_length};
 
 pub mod parts;
 
 // The width of a code. No other width can be made, so nothing over one has to refuse or to require.
-#[derive(Clone, Copy)]
+#[derive(Clone, Copy, Debug, PartialEq, Eq, Hash)]
 pub enum Width {
-    One,
-    Two,
-    Four,
-    Eight,
+    One = 1,
+    Two = 2,
+    Four = 4,
+    Eight = 8,
 }
 
-#[derive(Drop)]
-pub enum Found {
-    Width(Width),
-    BadWidth,
+impl TryFrom<u32> for Width {
+    type Error = Refusal;
+
+    ghost try_from_gives = { WidthOf };
+
+    // The width of that many bits.
+    fn try_from(bits: u32) -> Result<Width, Refusal> {
+        match bits {
+            1 => Ok(Width::one()),
+            2 => Ok(Width::two()),
+            4 => Ok(Width::four()),
+            8 => Ok(Width::eight()),
+            _ => Err(Refusal::BadWidth),
+        }
+    }
 }
 
 impl Width {
@@ -72,17 +86,11 @@ impl Width {
         Width::Eight
     }
 
-    // The width of that many bits, or BAD_WIDTH.
-    pub fn of_bits(bits: u32) -> Found
-        ensures { found_bits result bits }
+    // How many bits a code has.
+    pub fn bits(self) -> usize
+        ensures { (result ≡ bits_of self) × (result ≤ 8) }
     {
-        match bits {
-            1 => Found::Width(Width::one()),
-            2 => Found::Width(Width::two()),
-            4 => Found::Width(Width::four()),
-            8 => Found::Width(Width::eight()),
-            _ => Found::BadWidth,
-        }
+        self as usize
     }
 
     pub fn top(self) -> u32
@@ -98,60 +106,52 @@ impl Width {
 }
 
 // How many bytes dims codes take.
-pub fn digits_size(dims: u32, bits: u32, out: &mut [u8]) -> u32
-    ensures { (result, out.new) ≡ size_answer dims bits out.old }
+#[tactic(auto, unfolding(crate::specs::Calls::size_answer, crate::specs::Calls::size_number, words::specs::Refusals::answer, words::specs::Refusals::after))]
+pub fn digits_size(dims: u32, bits: u32, out: &mut [u8]) -> Result<(), Refusal>
+    ensures { (status result, out.new) ≡ size_answer dims bits out.old }
 {
-    if words::bad_dims(dims, words::MOST_SCALAR_DIMS) {
-        return words::BAD_DIMS;
-    }
-    let Found::Width(w) = Width::of_bits(bits) else {
-        return words::BAD_WIDTH;
-    };
-    words::put_size(out, parts::packed_size(w, dims as usize))
+    let dims = Dims::<MOST_SCALAR_DIMS>::try_from(dims)?;
+    let w = Width::try_from(bits)?;
+    has_length(out, 4)?;
+    words::put_number(out, parts::packed_size(w, dims) as u32);
+    Ok(())
 }
 
 // The codes, 8 / bits of them to a byte.
-pub fn digits_pack(dims: u32, bits: u32, codes: &[u8], packed: &mut [u8]) -> u32
-    ensures { (result, packed.new) ≡ pack_answer dims bits codes.now packed.old }
+#[tactic(auto, unfolding(crate::specs::Calls::pack_answer, crate::specs::Calls::pack_number, words::specs::Refusals::answer, words::specs::Refusals::after))]
+pub fn digits_pack(dims: u32, bits: u32, codes: &[u8], packed: &mut [u8]) -> Result<(), Refusal>
+    ensures { (status result, packed.new) ≡ pack_answer dims bits codes.now packed.old }
 {
-    if words::bad_dims(dims, words::MOST_SCALAR_DIMS) {
-        return words::BAD_DIMS;
-    }
-    let Found::Width(w) = Width::of_bits(bits) else {
-        return words::BAD_WIDTH;
-    };
-    if codes.len() != dims as usize {
-        return words::BAD_LENGTH;
-    }
-    if packed.len() != parts::packed_size(w, dims as usize) {
-        return words::BAD_LENGTH;
-    }
+    let dims = Dims::<MOST_SCALAR_DIMS>::try_from(dims)?;
+    let w = Width::try_from(bits)?;
+    has_length(codes, dims.get())?;
+    has_length(packed, parts::packed_size(w, dims))?;
     if words::any_above(w.top(), codes) {
-        return words::BAD_VALUE;
+        return Err(Refusal::BadValue);
     }
     parts::pack(w, codes, packed);
-    words::ACCEPTED
+    Ok(())
 }
 
 // Code index of packed bytes.
-pub fn digits_read(dims: u32, bits: u32, packed: &[u8], index: u32, out: &mut [u8]) -> u32
-    ensures { (result, out.new) ≡ read_answer dims bits packed.now index out.old }
+#[tactic(auto, unfolding(crate::specs::Calls::read_answer, crate::specs::Calls::read_number, words::specs::Refusals::answer, words::specs::Refusals::after))]
+pub fn digits_read(
+    dims: u32,
+    bits: u32,
+    packed: &[u8],
+    index: u32,
+    out: &mut [u8],
+) -> Result<(), Refusal>
+    ensures { (status result, out.new) ≡ read_answer dims bits packed.now index out.old }
 {
-    if words::bad_dims(dims, words::MOST_SCALAR_DIMS) {
-        return words::BAD_DIMS;
+    let dims = Dims::<MOST_SCALAR_DIMS>::try_from(dims)?;
+    let w = Width::try_from(bits)?;
+    has_length(packed, parts::packed_size(w, dims))?;
+    has_length(out, 4)?;
+    let i = index as usize;
+    if dims.get() <= i {
+        return Err(Refusal::OutOfRange);
     }
-    let Found::Width(w) = Width::of_bits(bits) else {
-        return words::BAD_WIDTH;
-    };
-    if packed.len() != parts::packed_size(w, dims as usize) {
-        return words::BAD_LENGTH;
-    }
-    if out.len() != 4 {
-        return words::BAD_LENGTH;
-    }
-    if dims <= index {
-        return words::OUT_OF_RANGE;
-    }
-    words::put_number(out, parts::digit(w, packed, index as usize));
-    words::ACCEPTED
+    words::put_number(out, u32::from(parts::digit(w, packed, i)));
+    Ok(())
 }

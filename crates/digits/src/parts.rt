@@ -1,6 +1,7 @@
-// What other crates of ours call, within what they have tested. The workers take the number of bits and are called with
-// a literal for each width: LLVM makes a loop of its own of each, and one proof serves the four.
-ghost use Rattle.std.specs.Prelude.{◌≡◌, true, false, ◌+◌, ◌/◌, ◌%◌, ◌^◌, ◌≤◌, ◌<◌, length, get_or};
+// What other crates of ours call, within what they have tested. The workers have the number of bits as a const parameter:
+// LLVM makes a loop of its own for each width, and one proof serves the four. That it is a width's stands in their contracts, since a
+// const parameter carries no fact.
+ghost use Rattle.std.specs.Prelude.{◌≡◌, ℕ, List, true, false, ◌+◌, ◌/◌, ◌%◌, ◌^◌, ◌≤◌, ◌<◌, length, get_or};
 ghost use Rattle.words.specs.Bytes.{num_at};
 ghost use Rattle.words.specs.Digits.{join};
 ghost use Rattle.words.specs.Limits.{most_scalar_dims};
@@ -8,147 +9,144 @@ ghost use Rattle.words.specs.Lists.{any_above};
 ghost use Rattle.digits.specs.Digits.{bits_of, is_width, levels, top, per_byte, packed_size, digit_at, packed};
 
 use super::Width;
-use words::{u32_at, u64_at};
+use std::marker::Model;
+use words::{Dims, MOST_SCALAR_DIMS, u32_at, u64_at};
 
 // How many bytes dims codes take.
-pub fn packed_size(w: Width, dims: usize) -> usize
-    requires { dims ≤ most_scalar_dims }
+pub fn packed_size(w: Width, dims: Dims<MOST_SCALAR_DIMS>) -> usize
     ensures { (result ≡ packed_size (bits_of w) dims) × (result ≤ most_scalar_dims) }
 {
-    match w {
-        Width::One => (dims + 7) / 8,
-        Width::Two => (dims * 2 + 7) / 8,
-        Width::Four => (dims * 4 + 7) / 8,
-        Width::Eight => dims,
-    }
+    (dims.get() * w.bits() + 7) / 8
 }
 
-// The code of s that starts o bits after its byte first: the lowest bits of what stands there, as many as `levels` has.
-pub fn code_from(levels: u32, s: &[u8], first: usize, o: usize) -> u32
-    requires { (first + o / 8 < length s.now) × (0 < levels) }
-    ensures { (result ≡ get_or s.now (first + o / 8) 0 / 2 ^ (o % 8) % levels) × (result < levels) }
+// Of codes of BITS bits: how many there are, the greatest, and how many stand in a byte.
+pub fn levels<const BITS: u32>() -> u16
+    requires { is_width BITS ≡ true }
+    ensures { (result ≡ levels BITS) × (result ≤ 256) }
 {
-    let b = words::wide(s[first + o / 8]);
-    (b >> (o % 8)) % levels
+    1 << BITS
 }
 
-// Digit i of the packed bytes s.
-pub fn digit(w: Width, s: &[u8], i: usize) -> u32
+pub fn top<const BITS: u32>() -> u8
+    requires { is_width BITS ≡ true }
+    ensures { result ≡ top BITS }
+{
+    u8::MAX >> (8 - BITS)
+}
+
+pub fn per_byte<const BITS: u32>() -> usize
+    requires { is_width BITS ≡ true }
+    ensures { (result ≡ per_byte BITS) × (0 < result) × (result ≤ 8) }
+{
+    8 / (BITS as usize)
+}
+
+// Digit i of the packed bytes s: the lowest bits of what stands there.
+pub fn digit_of<const BITS: u32>(s: &[u8], i: usize) -> u8
+    requires { (is_width BITS ≡ true) × (i / per_byte BITS < length s.now) × (i ≤ most_scalar_dims) }
+    ensures { (result ≡ digit_at BITS s.now i) × (result < levels BITS) }
+{
+    let first = i * (BITS as usize);
+    (s[first / 8] >> (first % 8)) & top::<BITS>()
+}
+
+// The same, of a width.
+#[tactic(auto, unfolding(crate::specs::Digits::is_width))]
+pub fn digit(w: Width, s: &[u8], i: usize) -> u8
     requires { (i / per_byte (bits_of w) < length s.now) × (i ≤ most_scalar_dims) }
     ensures { result ≡ digit_at (bits_of w) s.now i }
 {
     match w {
-        Width::One => code_from(Width::LEVELS_1, s, 0, i),
-        Width::Two => code_from(Width::LEVELS_2, s, 0, i * 2),
-        Width::Four => code_from(Width::LEVELS_4, s, 0, i * 4),
-        Width::Eight => code_from(Width::LEVELS_8, s, 0, i * 8),
+        Width::One => digit_of::<1>(s, i),
+        Width::Two => digit_of::<2>(s, i),
+        Width::Four => digit_of::<4>(s, i),
+        Width::Eight => digit_of::<8>(s, i),
     }
 }
 
 // The codes, packed.
+#[tactic(auto, unfolding(crate::specs::Digits::is_width))]
 pub fn pack(w: Width, codes: &[u8], out: &mut [u8])
     requires { (length codes.now ≤ most_scalar_dims) × (length out.old ≡ packed_size (bits_of w) (length codes.now))
         × (any_above (top (bits_of w)) codes.now ≡ false) }
     ensures { out.new ≡ packed (bits_of w) codes.now }
 {
     match w {
-        Width::One => pack_bits(1, Width::CODES_PER_BYTE_1, codes, out),
-        Width::Two => pack_bits(2, Width::CODES_PER_BYTE_2, codes, out),
-        Width::Four => pack_bits(4, Width::CODES_PER_BYTE_4, codes, out),
-        Width::Eight => pack_bits(8, Width::CODES_PER_BYTE_8, codes, out),
+        Width::One => Codes::<1> { codes }.pack(out),
+        Width::Two => Codes::<2> { codes }.pack(out),
+        Width::Four => Codes::<4> { codes }.pack(out),
+        Width::Eight => Codes::<8> { codes }.pack(out),
     }
 }
 
-fn pack_bits(bits: u32, per: usize, codes: &[u8], out: &mut [u8])
-    requires { (is_width bits ≡ true) × (per ≡ per_byte bits) × (length codes.now ≤ most_scalar_dims)
-        × (length out.old ≡ packed_size bits (length codes.now)) × (any_above (top bits) codes.now ≡ false) }
-    ensures { out.new ≡ packed bits codes.now }
-{
-    let mut k = 0usize;
-    let mut at = 0usize;
-    while at + per <= codes.len() {
-        out[k] = join_whole(bits, per, codes, at);
-        k += 1;
-        at += per;
+// Codes of BITS bits, none above the top one. Clauses see the codes.
+#[derive(Drop)]
+struct Codes<'a, const BITS: u32> {
+    codes: &'a [u8],
+}
+
+impl<'a, const BITS: u32> Model for Codes<'a, BITS> {
+    ghost Value = { List ℕ };
+
+    ghost view = { λ c. c.codes.now };
+
+    ghost invariant = { λ c. (is_width BITS ≡ true) × (any_above (top BITS) c.codes.now ≡ false) };
+}
+
+impl<'a, const BITS: u32> Codes<'a, BITS> {
+    fn pack(self, out: &mut [u8])
+        requires { length out.old ≡ packed_size BITS (length self) }
+        ensures { out.new ≡ packed BITS self.entry }
+    {
+        let n = self.codes.len();
+        let per = per_byte::<BITS>();
+        let whole = n / per;
+        for k in 0..whole {
+            out[k] = self.whole(k * per);
+        }
+        let at = whole * per;
+        if at < n {
+            out[whole] = self.some(n - at, at);
+        }
     }
-    if at < codes.len() {
-        out[k] = join_codes(bits, codes.len() - at, codes, at);
+
+    // The codes of a whole byte, from place at on. They are read as one number, with a code in each byte of it, and neighbours are
+    // brought together: first codes, then pairs, then fours. A loop over the codes of a byte becomes a load for each of them, at five to
+    // ten times the price; and one form for every width, over 64-bit numbers, takes twice as long at two bits (measured in Rust).
+    fn whole(&self, at: usize) -> u8
+        requires { at + per_byte BITS ≤ length self.now }
+        ensures { result ≡ join BITS (per_byte BITS) (λ j. get_or self.now (at + j) 0) }
+    {
+        match BITS {
+            1 => {
+                let x = u64_at(self.codes, at);
+                let pairs = x + x / 0x80;
+                let fours = pairs + pairs / 0x4000;
+                ((fours + fours / 0x1000_0000) % 256) as u8
+            }
+            2 => {
+                let x = u32_at(self.codes, at);
+                let pairs = x + x / 0x40;
+                ((pairs + pairs / 0x1000) % 256) as u8
+            }
+            4 => {
+                let p = &self.codes[at..at + 2];
+                let x = u16::from_le_bytes([p[0], p[1]]);
+                ((x + x / 0x10) % 256) as u8
+            }
+            _ => self.codes[at],
+        }
     }
-}
 
-// The codes of a whole byte, from place at on.
-fn join_whole(bits: u32, per: usize, codes: &[u8], at: usize) -> u8
-    requires { (is_width bits ≡ true) × (per ≡ per_byte bits) × (at + per ≤ length codes.now) × (any_above (top bits) codes.now ≡ false) }
-    ensures { result ≡ join bits per (λ j. get_or codes.now (at + j) 0) }
-{
-    if bits == 1 {
-        return join_eight(codes, at);
+    // n codes from place at on, in one byte.
+    fn some(&self, n: usize, at: usize) -> u8
+        requires { (n ≤ per_byte BITS) × (at + n ≤ length self.now) }
+        ensures { result ≡ join BITS n (λ j. get_or self.now (at + j) 0) }
+    {
+        let mut byte = 0u8;
+        for j in 0..n {
+            byte += self.codes[at + j] << (BITS * (j as u32));
+        }
+        byte
     }
-    if bits == 2 {
-        return join_four(codes, at);
-    }
-    if bits == 4 {
-        return join_two(codes, at);
-    }
-    join_codes(bits, per, codes, at)
-}
-
-// The next three read the codes as one number, with a code in each byte of it, and bring neighbours together: first codes, then
-// pairs, then fours. A loop over the codes of a byte becomes a load for each of them, at five to ten times the price.
-fn join_eight(codes: &[u8], at: usize) -> u8
-    requires { (at + 8 ≤ length codes.now) × (any_above (top 1) codes.now ≡ false) }
-    ensures { result ≡ join 1 8 (λ j. get_or codes.now (at + j) 0) }
-{
-    let x = u64_at(codes, at);
-    let pairs = x + x / 0x80;
-    let fours = pairs + pairs / 0x4000;
-    ((fours + fours / 0x1000_0000) % 256) as u8
-}
-
-fn join_four(codes: &[u8], at: usize) -> u8
-    requires { (at + 4 ≤ length codes.now) × (any_above (top 2) codes.now ≡ false) }
-    ensures { result ≡ join 2 4 (λ j. get_or codes.now (at + j) 0) }
-{
-    let x = u32_at(codes, at);
-    let pairs = x + x / 0x40;
-    ((pairs + pairs / 0x1000) % 256) as u8
-}
-
-fn join_two(codes: &[u8], at: usize) -> u8
-    requires { (at + 2 ≤ length codes.now) × (any_above (top 4) codes.now ≡ false) }
-    ensures { result ≡ join 4 2 (λ j. get_or codes.now (at + j) 0) }
-{
-    let end = at + 2;
-    let x = half(&codes[at..end]);
-    ((x + x / 0x10) % 256) as u8
-}
-
-// The 16-bit number that two bytes write, lowest first.
-fn half(p: &[u8]) -> u16
-    requires { length p.now ≡ 2 }
-    ensures { result ≡ num_at 2 p.now 0 }
-{
-    wide(p[0]) + wide(p[1]) * 0x100
-}
-
-fn wide(x: u8) -> u16
-    ensures { (result ≡ x) × (result < 256) }
-{
-    x as u16
-}
-
-// n codes from place at on, in one byte.
-fn join_codes(bits: u32, n: usize, codes: &[u8], at: usize) -> u8
-    requires { (is_width bits ≡ true) × (n ≤ per_byte bits) × (at + n ≤ length codes.now) × (any_above (top bits) codes.now ≡ false) }
-    ensures { result ≡ join bits n (λ j. get_or codes.now (at + j) 0) }
-{
-    let mut byte: u8 = 0;
-    let mut place: u32 = 0;
-    let mut j = 0usize;
-    while j < n {
-        byte += codes[at + j] << place;
-        place += bits;
-        j += 1;
-    }
-    byte
 }

@@ -23,7 +23,7 @@ use Rattle.estimate.specs.Record.{code_estimate, lane_estimate, lane_words, esti
 use Rattle.estimate.specs.Calls.{query_number, record_number, code_answer, block_answer}
 use Rattle.estimate.proofs.EstimateLaws.{estimate-fits}
 use Rattle.estimate.proofs.LaneLaws.{lane_is_code}
-use Rattle.estimate.proofs.CallLaws.{accepted, record_sized, code-none, code-value}
+use Rattle.estimate.proofs.CallLaws.{accepted, code-none, code-value}
 
 -- an accepted answer
 number_of : (n : ℕ) (old new now : List ℕ) → answer n old new ≡ (0, now) → n ≡ 0
@@ -51,18 +51,19 @@ module _ (w : Asked) (metric dims : ℕ) (v : Query) (qs block out lanes one : L
     written = buffer_of _ out _ lanes e
 
     -- the single code is accepted too, but for a NaN
-    number : 0 ≡ record_number metric dims (code_size dims) 4 v qs (lane_code dims block k) one
+    number : record_number metric dims (code_size dims) 4 v qs (lane_code dims block k) one ≡ 0
     unfolding record_number lane_code
     number =
         let a = accepted dims (bad_length block (block_size dims) || bad_length out 128) v qs (bad_form metric) ok in
         let c = lane_code dims block k in
         let s = none_bad _ _ (sized c (code_size dims) (length-code dims (lane_factor block k) (lane_bit block k))) (sized one 4 room) in
-        sym (ap (λ (b : Bool). query_number dims b v qs (bad_form metric)) (s ∙ sym a.others) ∙ ok)
+        ap (λ (b : Bool). query_number dims b v qs (bad_form metric)) (s ∙ sym a.others) ∙ ok
 
     same : code_estimate w (metric_of metric) v qs (lane_code dims block k) ≡ lane k
+    unfolding record_number
     same =
-        let a = record_sized metric dims (block_size dims) 128 v qs block out ok in
-        ap (λ (d : ℕ). code_estimate w (metric_of metric) v qs (lane_code d block k)) (sym a.query_is) ∙ sym (lane_is_code w (metric_of metric) v qs block k h)
+        let a = accepted dims (bad_length block (block_size dims) || bad_length out 128) v qs (bad_form metric) ok in
+        ap (λ (d : ℕ). code_estimate w (metric_of metric) v qs (lane_code d block k)) (sym a.size) ∙ sym (lane_is_code w (metric_of metric) v qs block k h)
 
     back : f32_at lanes k ≡ lane k
     unfolding lane_estimate estimate_of
@@ -78,8 +79,8 @@ module _ (w : Asked) (metric dims : ℕ) (v : Query) (qs block out lanes one : L
 
     go : (b : Bool) → is_nan (f32_at lanes k) ≡ b
         → code_answer w metric dims v qs (lane_code dims block k) one ≡ cond b (8, one) (0, take 4 (drop (4 * k) lanes))
-    go true n = sym (code-none w metric dims v qs _ one 0 number refl (ap is_nan (same ∙ sym back) ∙ n))
-    go false n = sym (code-value w metric dims v qs _ one 0 number refl (ap is_nan (same ∙ sym back) ∙ n) _ (bytes ∙ ap float_bytes (sym same)))
+    go true n = sym (code-none w metric dims v qs _ one number (ap is_nan (same ∙ sym back) ∙ n))
+    go false n = sym (code-value w metric dims v qs _ one number (ap is_nan (same ∙ sym back) ∙ n) _ (bytes ∙ ap float_bytes (sym same)))
 
   -- module 7: a lane of a block gives the estimate of its single code, the same bits, or a NaN where the single call refuses with 8
   pub lane_or_none : block_answer w metric dims v qs block out ≡ (0, lanes) → length one ≡ 4 → k < 32

@@ -1,38 +1,40 @@
--- Laws of specs/Estimate, specs/Record and specs/Parts: a sum as a float, the formulas case by case, tests for NaN. Assumes nothing.
-use mathlib.Core.Path.{◌≡◌, refl, sym, ap, subst, ◌∙◌}
-use mathlib.Core.Bool.{true, false, not}
+-- Laws of specs/Estimate and specs/Record: a sum as a float, what is written of a code and of 32 lanes, tests for NaN. Assumes nothing.
+use mathlib.Core.Path.{◌≡◌, refl, sym, subst, ◌∙◌}
+use mathlib.Core.Bool.{false, not}
 use Prim.Native.Nat.{ℕ, ◌+◌, ◌*◌, ◌≤◌, ◌<◌}
 use native.Mathlib.Omega.{arith}
 use mathlib.Core.List.{List}
 use lib.Dec.{T}
-use lib.ListN.{length, get_or, take}
+use lib.ListN.{length, get_or, take, drop}
 use lib.Seq.{sets, length-sets, take_all}
 use lib.IntN.{pos}
-use lib.Ieee.{Float, nan, inf, fin, binary32, in_float, fits, is_nan, lt, of_bits, to_bits}
+use lib.Ieee.{Float, nan, inf, fin, binary32, in_float, fits, is_nan, to_bits}
 use lib.Ieee.Fits.{add-fits, sub-fits}
 use borrow.Author.Tests.{le-leb}
+use Rattle.std.specs.Float.{float_is_finite}
 use Rattle.words.specs.Bytes.{f32_at, bytes_of, float_bytes, floats_of}
-use Rattle.words.specs.Floats.{◌⊕◌, ◌⊗◌, not_finite, any_nan}
+use Rattle.words.specs.Floats.{not_finite, any_nan}
 use Rattle.words.specs.Limits.{most_sum}
-use Rattle.words.specs.declared.Metric.{Metric}
-use Rattle.words.specs.declared.Metric.TheVariants.{L2, Dot}
+use Rattle.words.specs.declared.metric.Metric.{Metric}
+use Rattle.words.specs.declared.metric.Metric.TheVariants.{L2, Dot}
 use Rattle.words.proofs.ListLaws.{none-at}
-use Rattle.words.proofs.WordsLaws.{words_ext, words_more}
+use Rattle.words.proofs.WordsLaws.{words_more}
 use Rattle.code.specs.declared.parts.reader.Factors.{Factors}
+use Rattle.code.specs.Code.{words_bit}
+use Rattle.code.specs.Reader.{factors_at}
+use Rattle.sums.proofs.PlainLaws.{words_sum}
 use Rattle.sums.specs.Parts.{LaneSums}
-use Rattle.sums.specs.Sums.{plain_sum}
+use Rattle.sums.specs.Sums.{plain_sum, query_sum}
 use Rattle.estimate.specs.declared.Asked.{Asked}
 use Rattle.estimate.specs.declared.Asked.TheVariants.{Rough, LowerBound}
 use Rattle.estimate.specs.declared.Query.{Query}
-use Rattle.estimate.specs.declared.Ready.{Ready}
-use Rattle.estimate.specs.Estimate.{halved, ppc_term, ip_term, rough, two_s_minus_q, lower_bound, estimate}
-use Rattle.estimate.specs.Parts.{estimate_words, IsReady}
-use Rattle.estimate.specs.Record.{estimate_of, lane_factors, lane_estimate, lane_words}
+use Rattle.estimate.specs.Estimate.{rough, lower_bound, estimate}
+use Rattle.estimate.specs.Record.{estimate_of, code_estimate, lane_estimate, lane_words}
 
 -- a sum is turned to f32 without loss
-pub sum-in_float : (n : ℕ) → n ≤ most_sum → T (in_float binary32 (pos n))
+pub sum_in_float : (n : ℕ) → n ≤ most_sum → T (in_float binary32 (pos n))
 unfolding in_float
-sum-in_float n h = subst T (sym (le-leb n 16777216 (omega arith))) tt
+sum_in_float n h = subst T (sym (le-leb n 16777216 (omega arith))) tt
 
 -- an estimate is an f32
 pub estimate-fits : (w : Asked) (m : Metric) (v : Query) (f : Factors) (s q : ℕ) → T (fits binary32 (estimate w m v f s q))
@@ -41,30 +43,11 @@ estimate-fits Rough L2 v f s q = add-fits binary32 _ _
 estimate-fits Rough Dot v f s q = add-fits binary32 _ _
 estimate-fits LowerBound m v f s q = sub-fits binary32 _ _
 
--- ---- the rough estimate from its two terms
-
-module _ (m : Metric) (v : Query) (f : Factors) (s q : ℕ) (a b : Float) where
-  module _ (ea : a ≡ halved m (v.b ⊗ f.factor_ppc)) (eb : b ≡ halved m ((two_s_minus_q s q ⊗ f.factor_ip) ⊗ v.k)) where
-    pub rough_l2 : m ≡ L2 → ((f.dis_u_2 ⊕ v.dis_v_2) ⊕ a) ⊕ b ≡ rough m v f s q
-    unfolding rough ppc_term ip_term
-    rough_l2 e = rw (ea, eb, e) refl
-
-    pub rough_dot : m ≡ Dot → a ⊕ b ≡ rough m v f s q
-    unfolding rough ppc_term ip_term
-    rough_dot e = rw (ea, eb, e) refl
-
--- what the code works out from what is made once is the estimate of the record
-pub ready_estimate : (w : Asked) (m : Metric) (qs : List ℕ) (p : Ready) (f f' : Factors) (s : ℕ) (b : ℕ → ℕ)
-    → IsReady qs p → f ≡ f' → s ≡ plain_sum qs b → estimate w m p.v f s p.total ≡ estimate_of w m p.v qs f' b
-unfolding estimate_of
-ready_estimate w m qs p f f' s b r ef es = rw (ef, es, r.total) refl
-
--- what is written of 32 lanes from their sums
-pub lanes_same : (w : Asked) (m : Metric) (qs : List ℕ) (p : Ready) (block s out : List ℕ) → IsReady qs p → LaneSums qs block s
-    → out ≡ estimate_words 32 w m p s block → out ≡ lane_words w m p.v qs block
-unfolding lane_words lane_estimate
-lanes_same w m qs p block s out r h e =
-    e ∙ words_ext 32 _ _ (λ k l. ap (to_bits binary32) (ready_estimate w m qs p _ _ _ _ r refl (h.sums.each k l)))
+-- what the code works out of the parts of a single code, with the codes q of the query qs
+pub code_same : (w : Asked) (m : Metric) (v : Query) (qs q code words : List ℕ) (x : Float) (f : Factors) (s : ℕ) → q ≡ qs → words ≡ drop 16 code
+    → f ≡ factors_at code → s ≡ plain_sum q (words_bit words) → x ≡ estimate w m v f s (query_sum qs) → x ≡ code_estimate w m v qs code
+unfolding code_estimate estimate_of
+code_same w m v qs q code words x f s eq ew ef es e = e ∙ rw (ef, es, eq, words_sum qs code words ew) refl
 
 -- a turn of a loop that writes floats one after the other
 pub floats_more : (out out' : List ℕ) (k : ℕ) (x : Float) (f : ℕ → Float) → 4 * k + 4 ≤ length out → out' ≡ sets out (4 * k) (float_bytes x) → x ≡ f k
@@ -79,36 +62,29 @@ pub number_factor : (block : List ℕ) → any_nan 128 block ≡ false → (i : 
 unfolding any_nan
 number_factor block h = none-at (λ i. is_nan (f32_at block i)) 128 h
 
--- ---- the loops that write the estimates of 32 lanes from their sums
+-- ---- the loop that writes the estimates of 32 lanes from their sums
 
--- k of them are written
-abbrev pub Written : Asked → Metric → Ready → List ℕ → List ℕ → List ℕ → ℕ → Type 0
-Written w m p s block out k = (k ≤ 32) × (length out ≡ 128) × (take (4 * k) out ≡ estimate_words k w m p s block)
+module _ (w : Asked) (m : Metric) (v : Query) (qs block : List ℕ) where
+  -- k of them are written
+  abbrev pub Written : List ℕ → ℕ → Type 0
+  Written out k = (length out ≡ 128) × (take (4 * k) out ≡ floats_of k (lane_estimate w m v qs block))
 
-module _ (w : Asked) (m : Metric) (p : Ready) (s block out : List ℕ) (k : ℕ) (h : Written w m p s block out k) where
-  pub lane_more : (out' : List ℕ) (x : Float) (f : Factors) → k < 32 → f ≡ lane_factors block k → x ≡ estimate w m p.v f (get_or s k 0) p.total
-      → out' ≡ sets out (4 * k) (float_bytes x) → Written w m p s block out' (k + 1)
-  lane_more out' x f l ef ex e =
-      let one = ex ∙ ap (λ (f : Factors). estimate w m p.v f (get_or s k 0) p.total) ef in
-      let next = floats_more out out' k x _ (omega arith) e one h.2 in
-      (omega arith, next.1 ∙ h.1, next.0)
+  pub lane_more : (s out out' : List ℕ) (k : ℕ) (x d p i e : Float) → LaneSums qs block s → Written out k → k < 32
+      → d ≡ f32_at block k → p ≡ f32_at block (32 + k) → i ≡ f32_at block (64 + k) → e ≡ f32_at block (96 + k)
+      → x ≡ estimate w m v (record { dis_u_2 = d; factor_ppc = p; factor_ip = i; factor_err = e }) (get_or s k 0) (query_sum qs)
+      → out' ≡ sets out (4 * k) (float_bytes x) → Written out' (k + 1)
+  unfolding lane_estimate estimate_of
+  lane_more s out out' k x d p i e r h l ed ep ei ee ex eo =
+      let next = floats_more out out' k x _ (omega arith) eo (ex ∙ rw (ed, ep, ei, ee, r.sums.each k l) refl) h.1 in
+      (next.1 ∙ h.0, next.0)
 
-  pub lanes_written : 32 ≤ k → out ≡ estimate_words 32 w m p s block
-  lanes_written l = let e : k ≡ 32 = omega arith in sym (take_all 128 out (omega arith)) ∙ (rw e at h.2)
+  pub lanes_written : (out : List ℕ) → Written out 32 → out ≡ lane_words w m v qs block
+  unfolding lane_words
+  lanes_written out h = sym (take_all 128 out (omega arith)) ∙ h.1
 
--- ---- tests on a float
-
--- a finite float lies between the infinities
-pub below_infinity : (x : Float) → lt (of_bits binary32 0xFF80_0000) x ≡ true → not (lt x (of_bits binary32 0x7F80_0000)) ≡ not_finite x
-unfolding lt of_bits
-below_infinity nan e = refl
-below_infinity (inf true) e = e
-below_infinity (inf false) e = refl
-below_infinity (fin s m k) e = refl
-
-pub not-above : (x : Float) → lt (of_bits binary32 0xFF80_0000) x ≡ false → true ≡ not_finite x
-unfolding lt of_bits
-not-above nan e = refl
-not-above (inf true) e = refl
-not-above (inf false) e = refl
-not-above (fin s m k) e = e
+-- a number that is finite, as std tests it
+pub finite_test : (x : Float) → not_finite x ≡ not (float_is_finite x)
+unfolding float_is_finite
+finite_test nan = refl
+finite_test (inf s) = refl
+finite_test (fin s m e) = refl

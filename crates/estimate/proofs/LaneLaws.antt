@@ -7,7 +7,7 @@ use native.Mathlib.Nat.{add-zero}
 use lib.ListN.{length, get_or}
 use lib.Ieee.{Float, of_bits, binary32}
 use Rattle.words.specs.Bytes.{num_at, f32_at}
-use Rattle.words.specs.declared.Metric.{Metric}
+use Rattle.words.specs.declared.metric.Metric.{Metric}
 use Rattle.code.specs.declared.parts.reader.Factors.{Factors}
 use Rattle.code.specs.Code.{code_bit, code_of, cleared_code}
 use Rattle.code.proofs.CodeLaws.{code-bit-lt, factor_of_code, bit_of_code}

@@ -3,7 +3,7 @@ use mathlib.Core.Path.{◌≡◌, refl}
 use mathlib.Core.List.{[], ◌∷◌, map}
 use Prim.Native.Nat.{ℕ}
 use lib.Ieee.{Float, binary32, of_bits, to_bits, add, sub, mul, of_int}
-use Rattle.words.specs.declared.Metric.TheVariants.{L2, Dot}
+use Rattle.words.specs.declared.metric.Metric.TheVariants.{L2, Dot}
 use Rattle.root.specs.Root.{root_of}
 use Rattle.code.specs.declared.parts.reader.Factors.{Factors}
 use Rattle.estimate.specs.declared.Query.{Query}

@@ -2,10 +2,11 @@
 use Rattle.std.specs.Prelude.{ℕ, pos, Float}
 use Rattle.std.specs.Float.{nan, binary32}
 use Rattle.std.specs.Float.Ieee.{of_int, of_bits}
+use Rattle.std.specs.Option.{unwrap_or}
 use Rattle.words.specs.Floats.{◌⊕◌, ◌⊖◌, ◌⊗◌}
-use Rattle.words.specs.declared.Metric.{Metric}
-use Rattle.words.specs.declared.Metric.TheVariants.{L2, Dot}
-use Rattle.root.specs.Root.{root_of, value_or}
+use Rattle.words.specs.declared.metric.Metric.{Metric}
+use Rattle.words.specs.declared.metric.Metric.TheVariants.{L2, Dot}
+use Rattle.root.specs.Root.{root_of}
 use Rattle.code.specs.declared.parts.reader.Factors.{Factors}
 use Rattle.estimate.specs.declared.Asked.{Asked}
 use Rattle.estimate.specs.declared.Asked.TheVariants.{Rough, LowerBound}
@@ -49,7 +50,7 @@ rough Dot v f s q = ppc_term Dot v f ⊕ ip_term Dot v f s q
 
 -- root(dis_v_2) by module 3. An accepted query has one
 unfoldable pub root_float : Float → Float
-root_float x = value_or nan (root_of x)
+root_float x = unwrap_or (root_of x) nan
 
 -- factor_err * root(dis_v_2)
 unfoldable pub err : Metric → Query → Factors → Float

@@ -1,7 +1,7 @@
 -- The estimate of a record in bytes: of a single code, and of a lane of a block.
 use Rattle.std.specs.Prelude.{ℕ, ◌+◌, List, Float}
 use Rattle.words.specs.Bytes.{f32_at, floats_of}
-use Rattle.words.specs.declared.Metric.{Metric}
+use Rattle.words.specs.declared.metric.Metric.{Metric}
 use Rattle.code.specs.declared.parts.reader.Factors.{Factors}
 use Rattle.code.specs.Code.{code_bit}
 use Rattle.code.specs.Reader.{factors_at}

@@ -1,16 +1,20 @@
 -- The lanes of a block by groups of four dimensions: what is picked in one, in a stretch of them, and in all. Assumes nothing.
-use mathlib.Core.Path.{◌≡◌, refl, sym, ap, ap₂, ◌∙◌, subst}
+use mathlib.Core.Path.{◌≡◌, refl, sym, ap, ap₂, ◌∙◌}
 use Prim.Native.Nat.{ℕ, ◌+◌, ◌-◌, ◌*◌, ◌/◌, ◌%◌, ◌<◌, ◌≤◌, min}
-use mathlib.Core.List.{List}
+use mathlib.Core.List.{List, [], ◌++◌, append-nil}
+use borrow.Rule.Slice.PartMut.{put_mid}
+use Rattle.std.proofs.Common.{length-append, length-drop, take, drop}
+use Rattle.std.proofs.Math.ListN.{get_or-append}
+use Rattle.std.proofs.lemmas.List.{take_at, drop_all, get_or-append_right}
 use mathlib.Core.Logic.{⊎_elim}
 use native.Mathlib.Omega.{arith}
-use native.Mathlib.Nat.{add-zero, zero-add, div-div-eq-div-mul, mul-le-mul}
+use native.Mathlib.Nat.{zero-add, div-div-eq-div-mul, mul-le-mul}
 use lib.ListN.{length, get_or, replicate, get_or-replicate}
 use Rattle.words.specs.Digits.{bit}
 use Rattle.words.specs.Limits.{top_code, most_sum}
 use Rattle.words.specs.Sums.{sum_to}
 use Rattle.words.proofs.DigitLaws.{bit-lt, lt_or_ge}
-use Rattle.words.proofs.SumLaws.{sum_ext, sum_le, sum-split}
+use Rattle.words.proofs.SumLaws.{sum_ext, sum_le, sum_more, sum-split}
 use Rattle.block.specs.Block.{block_groups, lane_nibble, lane_bit}
 use Rattle.block.proofs.LaneLaws.{lane_bit-lt}
 use Rattle.sums.specs.Sums.{plain_sum, nibble_bit, group_sum, QueryCodes}
@@ -48,9 +52,6 @@ group_le qs q g m = sum_le top_code 4 (λ b. get_or qs (4 * g + b) 0 * bit m b) 
 
 -- an entry from the wide table
 module _ (qs t : List ℕ) (wide : Wide qs t) where
-  pub wide_small : QueryCodes qs → (i : ℕ) → i < 64 * block_groups (length qs) → get_or t i 0 ≤ top_code
-  wide_small q i l = omega (arith, wide.each i l, q.small (i / 16))
-
   pub group_of : (g j m r : ℕ) → g < block_groups (length qs) → j < 16
       → r ≡ get_or t (64 * g + j) 0 * bit m 0 + get_or t (64 * g + 16 + j) 0 * bit m 1 + get_or t (64 * g + 32 + j) 0 * bit m 2
       + get_or t (64 * g + 48 + j) 0 * bit m 3
@@ -79,15 +80,6 @@ module _ (qs : List ℕ) (m : ℕ → ℕ) where
       (sum_ext n (λ i. group_sum qs (g + (a + i)) (m (g + (a + i)))) (λ i. group_sum qs (g + a + i) (m (g + a + i)))
       (λ i _. let e : g + (a + i) ≡ g + a + i = omega arith in ap (λ (x : ℕ). group_sum qs x (m x)) e))
 
-  pub groups_one : (g : ℕ) → groups_sum qs m g 1 ≡ group_sum qs g (m g)
-  unfolding groups_sum sum_to
-  groups_one g = simp (add-zero, zero-add)
-
-  pub groups_four : (g : ℕ) {a b c d : ℕ} → a ≡ group_sum qs g (m g) → b ≡ group_sum qs (g + 1) (m (g + 1))
-      → c ≡ group_sum qs (g + 2) (m (g + 2)) → d ≡ group_sum qs (g + 3) (m (g + 3)) → a + b + c + d ≡ groups_sum qs m g 4
-  unfolding groups_sum sum_to
-  groups_four g ea eb ec ed = simp (add-zero, zero-add) (omega arith)
-
   pub groups_none : (g : ℕ) → groups_sum qs m g 0 ≡ 0
   unfolding groups_sum sum_to
   groups_none g = refl
@@ -109,6 +101,32 @@ module _ (qs : List ℕ) (m : ℕ → ℕ) where
 pub groups_add : (qs : List ℕ) (m : ℕ → ℕ) (g a n : ℕ) {x y : ℕ} → x ≡ groups_sum qs m g a → y ≡ groups_sum qs m (g + a) n → x + y ≡ groups_sum qs m g (a + n)
 groups_add qs m g a n held more = ap₂ (λ (u v : ℕ). u + v) held more ∙ sym (groups_more qs m g a n)
 
+-- one group more
+pub groups_step : (qs : List ℕ) (m : ℕ → ℕ) (g n : ℕ) {x y : ℕ} → x ≡ groups_sum qs m g n → y ≡ group_sum qs (g + n) (m (g + n)) → x + y ≡ groups_sum qs m g (n + 1)
+unfolding groups_sum
+groups_step qs m g n held more = ap₂ (λ (u v : ℕ). u + v) held more ∙ sym (sum_more n (λ i. group_sum qs (g + i) (m (g + i))))
+
+-- the lanes of both halves, as they are copied over 32 numbers
+pub lanes_of : (qs block : List ℕ) (g n : ℕ) {low high l h : List ℕ} (rest : List ℕ) → Sixteen qs block 0 g n low → Sixteen qs block 16 g n high → l ≡ low → h ≡ high
+    → length rest ≡ 16 → Lanes qs block g n (put_mid 16 16 (l ++ rest) h)
+lanes_of qs block g n {low} {high} {l} {h} rest a b el eh r = rw joined (record { long = omega (arith, length-append low high, a.long, b.long); each = at })
+  where
+    joined : put_mid 16 16 (l ++ rest) h ≡ low ++ high
+    joined =
+        let e : take 16 (low ++ rest) ≡ low = take_at low rest 16 a.long in
+        let none : drop 16 (drop 16 (low ++ rest)) ≡ [] = drop_all 16 (drop 16 (low ++ rest)) (omega (arith, length-drop 16 (low ++ rest), length-append low rest, a.long)) in
+        rw (el, eh) (ap₂ (λ (x y : List ℕ). x ++ (high ++ y)) e none ∙ ap (λ (x : List ℕ). low ++ x) (append-nil high))
+
+    is : ℕ → ℕ
+    is k = groups_sum qs (lane_nibble block k) g n
+
+    at : (k : ℕ) → k < 32 → get_or (low ++ high) k 0 ≡ groups_sum qs (lane_nibble block k) g n
+    at k lk =
+        ⊎_elim
+        (λ (lo : k < 16). let e : k + 0 ≡ k = omega arith in get_or-append low high 0 k (omega (arith, a.long)) ∙ a.each k lo ∙ ap is e)
+        (λ (hi : 16 ≤ k). let e : k - 16 + 16 ≡ k = omega arith in get_or-append_right low high 16 k 0 a.long hi ∙ b.each (k - 16) (omega arith) ∙ ap is e)
+        (lt_or_ge k 16)
+
 module _ (qs block : List ℕ) (at g a n : ℕ) {acc part : List ℕ} (held : Sixteen qs block at g a acc) (more : Sixteen qs block at (g + a) n part) where
   sixteen_add : (j : ℕ) → j < 16 → get_or acc j 0 + get_or part j 0 ≡ groups_sum qs (lane_nibble block (j + at)) g (a + n)
   sixteen_add j l = groups_add qs (lane_nibble block (j + at)) g a n (held.each j l) (more.each j l)
@@ -116,27 +134,11 @@ module _ (qs block : List ℕ) (at g a n : ℕ) {acc part : List ℕ} (held : Si
   pub sixteen_fit : QueryCodes qs → a + n ≤ stretch_groups → (j : ℕ) → j < 16 → get_or acc j 0 + get_or part j 0 < 65536
   sixteen_fit q h j l = omega (arith, sixteen_add j l, groups_le qs (lane_nibble block (j + at)) q g (a + n))
 
-  pub sixteen_more : (acc' : List ℕ) → length acc' ≡ 16 → ((j : ℕ) → j < 16 → get_or acc' j 0 ≡ get_or acc j 0 + get_or part j 0)
-      → Sixteen qs block at g (a + n) acc'
-  sixteen_more acc' len sums = record { long = len; each = λ j l. sums j l ∙ sixteen_add j l }
+  pub sixteen_more : {acc' : List ℕ} → Each 16 (λ j. get_or acc j 0 + get_or part j 0) acc' → Sixteen qs block at g (a + n) acc'
+  sixteen_more e = record { long = e.long; each = λ j l. e.each j l ∙ sixteen_add j l }
 
 pub sixteen_none : (qs block : List ℕ) (at g : ℕ) → Sixteen qs block at g 0 (replicate 16 0)
 sixteen_none qs block at g = record { long = refl; each = λ j l. get_or-replicate {A = ℕ} 16 j 0 0 l ∙ sym (groups_none qs (lane_nibble block (j + at)) g) }
-
--- the lanes below 16 and those from 16 on
-pub lanes_of_lem : (qs block : List ℕ) (g n : ℕ) {low top : List ℕ} (out : List ℕ) → Sixteen qs block 0 g n low → Sixteen qs block 16 g n top → length out ≡ 32
-    → ((j : ℕ) → j < 16 → get_or out (j + 0) 0 ≡ get_or low j 0) → ((j : ℕ) → j < 16 → get_or out (j + 16) 0 ≡ get_or top j 0) → Lanes qs block g n out
-lanes_of_lem qs block g n out a b len lo hi = record {
-  long = len;
-  each = λ k l.
-      ⊎_elim
-      (λ h. subst P (add-zero k) (lo k h ∙ a.each k h))
-      (λ h. let e : k - 16 + 16 ≡ k = omega arith in let h' : k - 16 < 16 = omega arith in subst P e (hi (k - 16) h' ∙ b.each (k - 16) h'))
-      (lt_or_ge k 16);
-}
-  where
-    P : ℕ → Type 0
-    P k = get_or out k 0 ≡ groups_sum qs (lane_nibble block k) g n
 
 pub lanes_none : (qs block : List ℕ) → Lanes qs block 0 0 (replicate 32 0)
 lanes_none qs block = record { long = refl; each = λ k l. get_or-replicate {A = ℕ} 32 k 0 0 l ∙ sym (groups_none qs (lane_nibble block k) 0) }

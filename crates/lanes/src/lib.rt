@@ -2,28 +2,32 @@
 #![tactic(auto)]
 
 ghost use Rattle.std.specs.Prelude.{◌≡◌};
+ghost use Rattle.words.specs.Refusals.{status};
 ghost use Rattle.sums.specs.Calls.{block_sums_answer};
 
-use parts::put_sums;
-use sums::parts::query::refusal;
-use words::{ACCEPTED, BAD_DIMS, MOST_DIMS, bad_dims, bad_lengths};
+use block::parts::block_size;
+use sums::QueryCodes;
+pub use wide::{WideTable, with_wide_table};
+use words::{Dims, MOST_DIMS, Refusal, has_length};
 
-pub mod parts;
+mod tabled;
+mod wide;
 
 // The sums of the 32 lanes of a block, by the fast form.
-pub fn block_sums(dims: u32, query: &[u8], block: &[u8], out: &mut [u8]) -> u32
-    ensures { (result, out.new) ≡ block_sums_answer dims query.now block.now out.old }
+#[tactic(auto, unfolding(sums::specs::Calls::block_sums_answer, sums::specs::Calls::sum_number, words::specs::Refusals::answer, words::specs::Refusals::after))]
+pub fn block_sums(dims: u32, query: &[u8], block: &[u8], out: &mut [u8]) -> Result<(), Refusal>
+    ensures { (status result, out.new) ≡ block_sums_answer dims query.now block.now out.old }
 {
-    if bad_dims(dims, MOST_DIMS) {
-        return BAD_DIMS;
-    }
-    let size = block::parts::size(dims as usize);
-    let other = bad_lengths(block.len(), size, out.len(), 128);
-    let r = refusal(dims, query, other);
-    if r != ACCEPTED {
-        return r;
-    }
-    let sums = parts::block_sums(query, block);
-    put_sums(out, &sums);
-    ACCEPTED
+    let dims = Dims::<MOST_DIMS>::try_from(dims)?;
+    has_length(query, dims.get())?;
+    has_length(block, block_size(dims))?;
+    has_length(out, 128)?;
+    let query = QueryCodes::judged(dims, query)?;
+    with_wide_table(
+        &query,
+        &(),
+        out,
+        |_, table, out| table.put_lane_sums(block, out),
+    );
+    Ok(())
 }

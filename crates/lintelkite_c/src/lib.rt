@@ -1,5 +1,5 @@
 // The C boundary of include/lintelkite.h, in the header's order. Each function calls the one of its name in lintelkite and makes its
-// promise.
+// promise: what it returns is 0 or the refusal's number.
 #![tactic(auto)]
 
 ghost use Rattle.std.specs.Prelude.{◌≡◌};
@@ -21,21 +21,21 @@ ghost use Rattle.rerank.specs.Calls as rerank;
 pub extern "C" fn lk_digits_size(dims: u32, bits: u32, out: &mut [u8]) -> u32
     ensures { (result, out.new) ≡ digits.size_answer dims bits out.old }
 {
-    lintelkite::lk_digits_size(dims, bits, out)
+    words::status(lintelkite::lk_digits_size(dims, bits, out))
 }
 
 #[unsafe(no_mangle)]
 pub extern "C" fn lk_code_size(dims: u32, out: &mut [u8]) -> u32
     ensures { (result, out.new) ≡ single.size_answer dims out.old }
 {
-    lintelkite::lk_code_size(dims, out)
+    words::status(lintelkite::lk_code_size(dims, out))
 }
 
 #[unsafe(no_mangle)]
 pub extern "C" fn lk_block_size(dims: u32, out: &mut [u8]) -> u32
     ensures { (result, out.new) ≡ blocks.size_answer dims out.old }
 {
-    lintelkite::lk_block_size(dims, out)
+    words::status(lintelkite::lk_block_size(dims, out))
 }
 
 // ---- module 1, digits
@@ -44,7 +44,7 @@ pub extern "C" fn lk_block_size(dims: u32, out: &mut [u8]) -> u32
 pub extern "C" fn lk_digits_pack(dims: u32, bits: u32, codes: &[u8], packed: &mut [u8]) -> u32
     ensures { (result, packed.new) ≡ digits.pack_answer dims bits codes.now packed.old }
 {
-    lintelkite::lk_digits_pack(dims, bits, codes, packed)
+    words::status(lintelkite::lk_digits_pack(dims, bits, codes, packed))
 }
 
 #[unsafe(no_mangle)]
@@ -57,7 +57,7 @@ pub extern "C" fn lk_digits_read(
 ) -> u32
     ensures { (result, out.new) ≡ digits.read_answer dims bits packed.now index out.old }
 {
-    lintelkite::lk_digits_read(dims, bits, packed, index, out)
+    words::status(lintelkite::lk_digits_read(dims, bits, packed, index, out))
 }
 
 // ---- module 2, scalar quantizer
@@ -73,7 +73,7 @@ pub extern "C" fn lk_scalar_encode(
 ) -> u32
     ensures { (result, code.new) ≡ scalar.encode_answer dims bits vector.now min.now max.now code.old }
 {
-    lintelkite::lk_scalar_encode(dims, bits, vector, min, max, code)
+    words::status(lintelkite::lk_scalar_encode(dims, bits, vector, min, max, code))
 }
 
 #[unsafe(no_mangle)]
@@ -89,7 +89,7 @@ pub extern "C" fn lk_scalar_table(
     ensures { (result, table.new)
         ≡ scalar.table_answer metric dims bits vector.now min.now max.now table.old }
 {
-    lintelkite::lk_scalar_table(metric, dims, bits, vector, min, max, table)
+    words::status(lintelkite::lk_scalar_table(metric, dims, bits, vector, min, max, table))
 }
 
 #[unsafe(no_mangle)]
@@ -103,7 +103,7 @@ pub extern "C" fn lk_scalar_distance(
 ) -> u32
     ensures { (result, out.new) ≡ scalar.distance_answer metric dims bits table.now code.now out.old }
 {
-    lintelkite::lk_scalar_distance(metric, dims, bits, table, code, out)
+    words::status(lintelkite::lk_scalar_distance(metric, dims, bits, table, code, out))
 }
 
 // ---- module 3, square root
@@ -112,7 +112,7 @@ pub extern "C" fn lk_scalar_distance(
 pub extern "C" fn lk_root(x: f32, out: &mut [u8]) -> u32
     ensures { (result, out.new) ≡ root.root_answer x out.old }
 {
-    lintelkite::lk_root(x, out)
+    words::status(lintelkite::lk_root(x, out))
 }
 
 // ---- module 4, single code
@@ -121,14 +121,14 @@ pub extern "C" fn lk_root(x: f32, out: &mut [u8]) -> u32
 pub extern "C" fn lk_code_encode(dims: u32, factors: &[u8], vector: &[u8], code: &mut [u8]) -> u32
     ensures { (result, code.new) ≡ single.encode_answer dims factors.now vector.now code.old }
 {
-    lintelkite::lk_code_encode(dims, factors, vector, code)
+    words::status(lintelkite::lk_code_encode(dims, factors, vector, code))
 }
 
 #[unsafe(no_mangle)]
 pub extern "C" fn lk_code_bit(dims: u32, code: &[u8], index: u32, out: &mut [u8]) -> u32
     ensures { (result, out.new) ≡ single.bit_answer dims code.now index out.old }
 {
-    lintelkite::lk_code_bit(dims, code, index, out)
+    words::status(lintelkite::lk_code_bit(dims, code, index, out))
 }
 
 // ---- module 5, block
@@ -137,14 +137,14 @@ pub extern "C" fn lk_code_bit(dims: u32, code: &[u8], index: u32, out: &mut [u8]
 pub extern "C" fn lk_block_pack(dims: u32, codes: &[u8], block: &mut [u8]) -> u32
     ensures { (result, block.new) ≡ blocks.pack_answer dims codes.now block.old }
 {
-    lintelkite::lk_block_pack(dims, codes, block)
+    words::status(lintelkite::lk_block_pack(dims, codes, block))
 }
 
 #[unsafe(no_mangle)]
 pub extern "C" fn lk_block_lane(dims: u32, block: &[u8], lane: u32, code: &mut [u8]) -> u32
     ensures { (result, code.new) ≡ blocks.lane_answer dims block.now lane code.old }
 {
-    lintelkite::lk_block_lane(dims, block, lane, code)
+    words::status(lintelkite::lk_block_lane(dims, block, lane, code))
 }
 
 // ---- module 6, sums
@@ -153,21 +153,21 @@ pub extern "C" fn lk_block_lane(dims: u32, block: &[u8], lane: u32, code: &mut [
 pub extern "C" fn lk_query_sum(dims: u32, query: &[u8], out: &mut [u8]) -> u32
     ensures { (result, out.new) ≡ sums.query_sum_answer dims query.now out.old }
 {
-    lintelkite::lk_query_sum(dims, query, out)
+    words::status(lintelkite::lk_query_sum(dims, query, out))
 }
 
 #[unsafe(no_mangle)]
 pub extern "C" fn lk_code_sum(dims: u32, query: &[u8], code: &[u8], out: &mut [u8]) -> u32
     ensures { (result, out.new) ≡ sums.code_sum_answer dims query.now code.now out.old }
 {
-    lintelkite::lk_code_sum(dims, query, code, out)
+    words::status(lintelkite::lk_code_sum(dims, query, code, out))
 }
 
 #[unsafe(no_mangle)]
 pub extern "C" fn lk_block_sums(dims: u32, query: &[u8], block: &[u8], out: &mut [u8]) -> u32
     ensures { (result, out.new) ≡ sums.block_sums_answer dims query.now block.now out.old }
 {
-    lintelkite::lk_block_sums(dims, query, block, out)
+    words::status(lintelkite::lk_block_sums(dims, query, block, out))
 }
 
 // ---- module 7, estimates
@@ -186,7 +186,7 @@ pub extern "C" fn lk_code_rough(
     ensures { (result, out.new)
         ≡ estimates.code_answer Rough metric dims (query_of dis_v_2 b k) query.now code.now out.old }
 {
-    lintelkite::lk_code_rough(metric, dims, dis_v_2, b, k, query, code, out)
+    words::status(lintelkite::lk_code_rough(metric, dims, dis_v_2, b, k, query, code, out))
 }
 
 #[unsafe(no_mangle)]
@@ -203,7 +203,7 @@ pub extern "C" fn lk_code_lower_bound(
     ensures { (result, out.new)
         ≡ estimates.code_answer LowerBound metric dims (query_of dis_v_2 b k) query.now code.now out.old }
 {
-    lintelkite::lk_code_lower_bound(metric, dims, dis_v_2, b, k, query, code, out)
+    words::status(lintelkite::lk_code_lower_bound(metric, dims, dis_v_2, b, k, query, code, out))
 }
 
 #[unsafe(no_mangle)]
@@ -220,7 +220,7 @@ pub extern "C" fn lk_block_rough(
     ensures { (result, out.new)
         ≡ estimates.block_answer Rough metric dims (query_of dis_v_2 b k) query.now block.now out.old }
 {
-    lintelkite::lk_block_rough(metric, dims, dis_v_2, b, k, query, block, out)
+    words::status(lintelkite::lk_block_rough(metric, dims, dis_v_2, b, k, query, block, out))
 }
 
 #[unsafe(no_mangle)]
@@ -237,7 +237,7 @@ pub extern "C" fn lk_block_lower_bounds(
     ensures { (result, out.new)
         ≡ estimates.block_answer LowerBound metric dims (query_of dis_v_2 b k) query.now block.now out.old }
 {
-    lintelkite::lk_block_lower_bounds(metric, dims, dis_v_2, b, k, query, block, out)
+    words::status(lintelkite::lk_block_lower_bounds(metric, dims, dis_v_2, b, k, query, block, out))
 }
 
 // ---- module 8, range walk
@@ -264,10 +264,10 @@ pub extern "C" fn lk_walk(
         ≡ walks.walk_answer metric layout dims (query_of dis_v_2 b k) query.now records.now n start end
         ids.old bounds.old marks.old count.old }
 {
-    lintelkite::lk_walk(
+    words::status(lintelkite::lk_walk(
         metric, layout, dims, dis_v_2, b, k, query, records, n, start, end, ids, bounds, marks,
         count,
-    )
+    ))
 }
 
 // ---- module 9, reranker
@@ -282,7 +282,7 @@ pub extern "C" fn lk_rerank_next(
     ensures { (result, marks.new, out.new)
         ≡ rerank.next_answer estimates.now distances.now marks.old out.old }
 {
-    lintelkite::lk_rerank_next(estimates, distances, marks, out)
+    words::status(lintelkite::lk_rerank_next(estimates, distances, marks, out))
 }
 
 #[unsafe(no_mangle)]
@@ -297,5 +297,5 @@ pub extern "C" fn lk_rerank_supply(
     ensures { (result, distances.new, marks.new, out.new)
         ≡ rerank.supply_answer estimates.now distances.old marks.old place distance out.old }
 {
-    lintelkite::lk_rerank_supply(estimates, distances, marks, place, distance, out)
+    words::status(lintelkite::lk_rerank_supply(estimates, distances, marks, place, distance, out))
 }

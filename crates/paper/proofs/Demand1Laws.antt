@@ -6,6 +6,7 @@ use mathlib.Core.List.{List, [], ◌∷◌}
 use lib.Dec.{leb, ltb}
 use lib.ListN.{length}
 use lib.Ieee.{Float, is_nan}
+use Rattle.std.specs.Prelude.{is_none}
 use Rattle.words.specs.Floats.{missing}
 use Rattle.words.specs.Limits.{most_dims, most_scalar_dims, top_code}
 use Rattle.words.specs.Lists.{any_below, any_above}
@@ -16,9 +17,7 @@ use Rattle.digits.specs.Digits.{is_width, top, packed_size}
 use Rattle.digits.specs.Calls as digits
 use Rattle.scalar.specs.Table.{table_size, sum_of}
 use Rattle.scalar.specs.Calls as scalar
-use Rattle.root.specs.Root.{root_of, number_of}
-use Rattle.root.specs.declared.Root.{Root}
-use Rattle.root.specs.declared.Root.TheVariants.{Is, Missing}
+use Rattle.root.specs.Root.{root_of}
 use Rattle.root.specs.Calls as root
 use Rattle.code.specs.Code.{code_size}
 use Rattle.code.specs.Calls as single
@@ -62,7 +61,6 @@ unfolding size_number
 sized dims out h1 h3 h0 = row (bad_dims most_dims dims) h1 (row (bad_length out 4) h3 h0)
 
 vectors : (dims : ℕ) (vector lo hi : List ℕ) (other form : Bool) → Listed (0 ∷ 1 ∷ 2 ∷ 3 ∷ 4 ∷ 5 ∷ []) (scalar.vectors_number dims vector lo hi other form)
-unfolding scalar.vectors_number
 vectors dims vector lo hi other form =
     row (scalar.bad_vectors dims vector lo hi || other) (at refl)
     (row (scalar.any_missing dims vector lo hi) (at refl) (row (scalar.above_max dims lo hi || form) (at refl) (at refl)))
@@ -79,10 +77,6 @@ unfolding estimates.query_number
 queried dims other v query form h1 h3 h4 h5 h0 =
     row (bad_dims most_dims dims) h1
     (row (bad_length query dims || other) h3 (row (estimates.missing_query v) h4 (row (form || estimates.bad_query v query) h5 h0)))
-
-rooted : (r : Root) → Listed (0 ∷ 3 ∷ 4 ∷ []) (number_of r)
-rooted (Is v) = at refl
-rooted Missing = at refl
 
 ruled : {numbers : List ℕ} (s : State) → Listed numbers 4 → Listed numbers 5 → Listed numbers 0 → Listed numbers (next_refusal s)
 unfolding next_refusal
@@ -110,7 +104,7 @@ module_2 :
     ((dims bits : ℕ) (vector lo hi out : List ℕ) → Meets (1 ∷ 2 ∷ 3 ∷ 4 ∷ 5 ∷ []) out (scalar.encode_answer dims bits vector lo hi out))
     × ((metric dims bits : ℕ) (vector lo hi out : List ℕ) → Meets (1 ∷ 2 ∷ 3 ∷ 4 ∷ 5 ∷ []) out (scalar.table_answer metric dims bits vector lo hi out))
     × ((metric dims bits : ℕ) (table packed out : List ℕ) → Meets (1 ∷ 2 ∷ 3 ∷ 5 ∷ 8 ∷ []) out (scalar.distance_answer metric dims bits table packed out))
-unfolding scalar.encode_answer scalar.encode_number scalar.table_answer scalar.table_number scalar.distance_answer scalar.distance_number
+unfolding scalar.encode_answer scalar.encode_number scalar.table_answer scalar.table_number scalar.distance_answer
 module_2 = (
   λ dims bits vector lo hi out.
       meets _ _ (row (bad_dims most_scalar_dims dims) (at refl) (row (not (is_width bits)) (at refl)
@@ -133,7 +127,7 @@ modules_3_4_5 :
 unfolding root.root_answer root.root_number single.encode_answer single.encode_number single.bit_answer single.bit_number blocks.pack_answer
     blocks.pack_number blocks.lane_answer blocks.lane_number
 modules_3_4_5 = (
-  λ x out. meets _ _ (row (bad_length out 4) (at refl) (rooted (root_of x))),
+  λ x out. meets _ _ (row (bad_length out 4) (at refl) (row (is_none (root_of x)) (at refl) (at refl))),
   λ dims factors vector out.
       meets _ _ (row (bad_dims most_dims dims) (at refl)
       (row (bad_length factors 16 || bad_length vector (4 * dims) || bad_length out (code_size dims)) (at refl) (row (missing dims vector) (at refl) (at refl)))),

@@ -5,7 +5,7 @@ use Rattle.std.specs.Float.Ieee.{is_nan}
 use Rattle.words.specs.Bytes.{f32_at}
 use Rattle.words.specs.Digits.{bit}
 use Rattle.words.specs.Lists.{any_above, record_of}
-use Rattle.words.specs.declared.Metric.{Metric}
+use Rattle.words.specs.declared.metric.Metric.{Metric}
 use Rattle.digits.specs.Digits.{is_width, levels, top, digit_at, packed}
 use Rattle.scalar.specs.Table.{table_bytes, entry_at}
 use Rattle.code.specs.Code.{code_words, code_size, code_word, code_bit, code_of, cleared_code, sign_clear}

@@ -1,5 +1,5 @@
 -- The paper's numbers that are to be proved, in one statement. A row is what the definitions give, and what the paper says.
-use Rattle.std.specs.Prelude.{ℕ, ◌+◌, ◌*◌, ◌≡◌, List, [], ◌∷◌, map, get_or, length, replicate, Float}
+use Rattle.std.specs.Prelude.{ℕ, ◌+◌, ◌*◌, ◌≡◌, List, [], ◌∷◌, map, get_or, length, replicate, Float, Some}
 use Rattle.std.specs.Float.{binary32}
 use Rattle.std.specs.Float.Ieee.{of_bits}
 use Rattle.words.specs.Bytes.{words_of}
@@ -7,7 +7,6 @@ use Rattle.words.specs.Lists.{tabulate}
 use Rattle.digits.specs.Digits.{digit_at, packed}
 use Rattle.scalar.specs.Code.{scalar_code}
 use Rattle.root.specs.Root.{root_of}
-use Rattle.root.specs.declared.Root.TheVariants.{Is}
 use Rattle.code.specs.Code.{code_words, code_size, code_word, code_bit, code_of, words_bit}
 use Rattle.code.specs.Reader.{words_at}
 use Rattle.block.specs.Block.{block_size}
@@ -115,9 +114,9 @@ pub record Table : Type 0 where
   -- min = max = 7: 6 gives 0, 7 gives 0, 8 gives 15
   pub no_room : scalar_codes 4 f7 f7 (f6 ∷ f7 ∷ f8 ∷ []) ≡ 0 ∷ 0 ∷ 15 ∷ []
   -- root of 2.0: 0x3FB504F3
-  pub root_of_2 : root_of (f32 f2) ≡ Is (f32 0x3FB5_04F3)
+  pub root_of_2 : root_of (f32 f2) ≡ Some (f32 0x3FB5_04F3)
   -- root of the least subnormal: 0x1A3504F3
-  pub root_of-least : root_of (f32 1) ≡ Is (f32 0x1A35_04F3)
+  pub root_of-least : root_of (f32 1) ≡ Some (f32 0x1A35_04F3)
   -- estimates 1, 2, 3, distances 2.5, 2, 9, whole run: Ask 0, Ask 1, Give 1, Give 0, Ask 2, Give 2, Done. Every call is accepted
   pub first_run : run (f1 ∷ f2 ∷ f3 ∷ []) (f2½ ∷ f2 ∷ f9 ∷ [])
       ≡ (

@@ -7,7 +7,13 @@ use native.Mathlib.Omega.{arith}
 use native.Mathlib.Nat.{add_assoc, add-zero, mul_comm, mul_left_comm}
 use native.Mathlib.Nat.{zero-div, le_of_lt, min-eq_left, min-eq_right, min-le_left}
 use lib.ListN.{length, get_or, take, drop, replicate, get_or-replicate, length-replicate, length-take, get_or-eq_default}
-use lib.Seq.{get_or-take, get_or-drop}
+use lib.Seq.{get_or-take, get_or-drop, length-take-le}
+use lib.ListN.{length-drop}
+use borrow.Rule.Slice.PartMut.{put_mid}
+use Rattle.std.proofs.Common.{rules, ◌++◌, length-append}
+use Rattle.std.proofs.Math.ListN.{get_or-append}
+use Rattle.std.proofs.lemmas.List.{places}
+use Rattle.std.proofs.lemmas.Slice.{overwrites}
 use lib.Bits.{bit_and}
 use lib.Count.{ones}
 use lib.Pow.{pow-add}
@@ -19,7 +25,7 @@ use Rattle.words.proofs.DigitLaws.{lt_or_ge}
 use Rattle.code.specs.Code.{code_words, words_bit}
 use Rattle.sums.specs.Sums.{plain_sum, plane_word, plane_ones, plane_count, QueryCodes}
 use Rattle.sums.proofs.PlaneLaws.{planes_plain}
-use Rattle.planes.specs.Parts.{PlaneAt}
+use Rattle.planes.specs.Parts.{IsPlane, PlaneAt, Planes}
 
 -- ---- a word of a plane
 
@@ -96,11 +102,97 @@ pub counts_plain : (qs words : List ℕ) → QueryCodes qs → ((k : ℕ) → ge
 unfolding plane_count
 counts_plain qs words q bytes e₀ e₁ e₂ e₃ = omega (arith, planes_plain qs words q bytes)
 
--- a count of a plane as the code holds it
-pub held-ones : (qs words t : List ℕ) (p at : ℕ) → PlaneAt qs p t at
-    → sum_to (code_words (length qs)) (λ w. ones (bit_and (num_at 8 words (8 * w)) (get_or t (at + w) 0))) ≡ plane_ones qs words p
+-- a count of a plane, which the code holds from place at to place e
+pub held-ones : (qs words t : List ℕ) (p at e : ℕ) → e ≡ at + code_words (length qs) → e ≤ length t → PlaneAt qs p t at → let part = take (e - at) (drop at t) in
+    sum_to (length part) (λ w. ones (bit_and (num_at 8 words (8 * w)) (get_or part w 0))) ≡ plane_ones qs words p
 unfolding plane_ones
-held-ones qs words t p at plane =
-    sum_ext (code_words (length qs)) (λ w. ones (bit_and (num_at 8 words (8 * w)) (get_or t (at + w) 0)))
+held-ones qs words t p at e is l plane =
+    let part = take (e - at) (drop at t) in
+    let long : length part ≡ code_words (length qs) = omega (arith, length-take-le (e - at) (drop at t), length-drop at t) in
+    ap (λ (n : ℕ). sum_to n (λ w. ones (bit_and (num_at 8 words (8 * w)) (get_or part w 0)))) long
+    ∙ sum_ext (code_words (length qs)) (λ w. ones (bit_and (num_at 8 words (8 * w)) (get_or part w 0)))
     (λ w. ones (bit_and (num_at 8 words (8 * w)) (plane_word qs p w)))
-    (λ w l. ap (λ (x : ℕ). ones (bit_and (num_at 8 words (8 * w)) x)) (plane w l))
+    (λ w h. ap (λ (x : ℕ). ones (bit_and (num_at 8 words (8 * w)) x)) (get_or-take (e - at) (drop at t) w 0 (omega arith) ∙ get_or-drop at t w 0 ∙ plane w h))
+
+-- ---- the planes, one written after the other
+
+module _ (a k : ℕ) (xs ys : List ℕ) (fits : a + k ≤ length xs) (long : length ys ≡ k) where
+  put_length : length (put_mid a k xs ys) ≡ length xs
+  put_length = search (rules, overwrites)
+
+  put_inside : (w : ℕ) → w < k → get_or (put_mid a k xs ys) (a + w) 0 ≡ get_or ys w 0
+  put_inside w l = search (rules, places)
+
+  put_below : (i : ℕ) → i < a → get_or (put_mid a k xs ys) i 0 ≡ get_or xs i 0
+  put_below i l = search (rules, places)
+
+pub planes_put : (qs rest p₀ p₁ p₂ p₃ : List ℕ) → 3 * code_words (length qs) ≤ length rest → IsPlane qs 0 p₀ → IsPlane qs 1 p₁ → IsPlane qs 2 p₂
+    → IsPlane qs 3 p₃ → let n = code_words (length qs) in
+    Planes qs (put_mid (3 * n) (4 * n - 3 * n) (put_mid (2 * n) (3 * n - 2 * n) (put_mid n (2 * n - n) (p₀ ++ rest) p₁) p₂) p₃)
+planes_put qs rest p₀ p₁ p₂ p₃ r a b c d = record {
+  room = omega (arith, long₀, long₁, long₂, long₃);
+  one = λ w l.
+      let e : 0 + w ≡ w = omega arith in
+      ap (λ (i : ℕ). get_or t₃ i 0) e ∙ put_below (3 * n) k₃ t₂ p₃ fit₃ l₃ w (omega arith) ∙ put_below (2 * n) k₂ t₁ p₂ fit₂ l₂ w (omega arith)
+      ∙ put_below n k₁ t₀ p₁ fit₁ l₁ w l ∙ get_or-append p₀ rest 0 w (omega (arith, a.0)) ∙ a.1 w (omega (arith, a.0));
+  two = λ w l.
+      put_below (3 * n) k₃ t₂ p₃ fit₃ l₃ (n + w) (omega arith) ∙ put_below (2 * n) k₂ t₁ p₂ fit₂ l₂ (n + w) (omega arith)
+      ∙ put_inside n k₁ t₀ p₁ fit₁ l₁ w (omega arith) ∙ b.1 w (omega (arith, b.0));
+  four = λ w l.
+      put_below (3 * n) k₃ t₂ p₃ fit₃ l₃ (2 * n + w) (omega arith) ∙ put_inside (2 * n) k₂ t₁ p₂ fit₂ l₂ w (omega arith) ∙ c.1 w (omega (arith, c.0));
+  eight = λ w l. put_inside (3 * n) k₃ t₂ p₃ fit₃ l₃ w (omega arith) ∙ d.1 w (omega (arith, d.0));
+}
+  where
+    n : ℕ
+    n = code_words (length qs)
+
+    k₁ : ℕ
+    k₁ = 2 * n - n
+
+    k₂ : ℕ
+    k₂ = 3 * n - 2 * n
+
+    k₃ : ℕ
+    k₃ = 4 * n - 3 * n
+
+    t₀ : List ℕ
+    t₀ = p₀ ++ rest
+
+    long₀ : length t₀ ≡ n + length rest
+    long₀ = omega (arith, length-append p₀ rest, a.0)
+
+    fit₁ : n + k₁ ≤ length t₀
+    fit₁ = omega (arith, long₀)
+
+    l₁ : length p₁ ≡ k₁
+    l₁ = omega (arith, b.0)
+
+    t₁ : List ℕ
+    t₁ = put_mid n k₁ t₀ p₁
+
+    long₁ : length t₁ ≡ length t₀
+    long₁ = put_length n k₁ t₀ p₁ fit₁ l₁
+
+    fit₂ : 2 * n + k₂ ≤ length t₁
+    fit₂ = omega (arith, long₀, long₁)
+
+    l₂ : length p₂ ≡ k₂
+    l₂ = omega (arith, c.0)
+
+    t₂ : List ℕ
+    t₂ = put_mid (2 * n) k₂ t₁ p₂
+
+    long₂ : length t₂ ≡ length t₁
+    long₂ = put_length (2 * n) k₂ t₁ p₂ fit₂ l₂
+
+    fit₃ : 3 * n + k₃ ≤ length t₂
+    fit₃ = omega (arith, long₀, long₁, long₂)
+
+    l₃ : length p₃ ≡ k₃
+    l₃ = omega (arith, d.0)
+
+    t₃ : List ℕ
+    t₃ = put_mid (3 * n) k₃ t₂ p₃
+
+    long₃ : length t₃ ≡ length t₂
+    long₃ = put_length (3 * n) k₃ t₂ p₃ fit₃ l₃

@@ -3,6 +3,10 @@ use Rattle.std.specs.Prelude.{ℕ, ◌+◌, ◌*◌, ◌≤◌, ◌<◌, ◌≡�
 use Rattle.code.specs.Code.{code_words}
 use Rattle.sums.specs.Sums.{plane_word}
 
+-- s is plane p of a query
+abbrev pub IsPlane : List ℕ → ℕ → List ℕ → Type 0
+IsPlane qs p s = (length s ≡ code_words (length qs)) × ((w : ℕ) → w < length s → get_or s w 0 ≡ plane_word qs p w)
+
 -- plane p of a query stands in t from place at on
 abbrev pub PlaneAt : List ℕ → ℕ → List ℕ → ℕ → Type 0
 PlaneAt qs p t at = (w : ℕ) → w < code_words (length qs) → get_or t (at + w) 0 ≡ plane_word qs p w

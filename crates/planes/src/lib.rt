@@ -2,28 +2,29 @@
 #![tactic(auto)]
 
 ghost use Rattle.std.specs.Prelude.{◌≡◌};
+ghost use Rattle.words.specs.Refusals.{status};
 ghost use Rattle.sums.specs.Calls.{code_sum_answer};
 
-use parts::PLANES;
-use sums::parts::query::refusal;
-use words::{ACCEPTED, BAD_DIMS, MOST_DIMS, bad_dims, bad_lengths, put_number};
+use code::parts::code_size;
+use code::parts::reader::words_of;
+pub use planes::{PLANES, Planes};
+use sums::QueryCodes;
+use words::{Dims, MOST_DIMS, Refusal, has_length, put_number};
 
-pub mod parts;
+mod planes;
 
 // The sum of a single code, by planes.
-pub fn code_sum(dims: u32, query: &[u8], code: &[u8], out: &mut [u8]) -> u32
-    ensures { (result, out.new) ≡ code_sum_answer dims query.now code.now out.old }
+#[tactic(auto, using(sums::proofs::PlainLaws::words_sum), unfolding(sums::specs::Calls::code_sum_answer, sums::specs::Calls::sum_number, words::specs::Refusals::answer, words::specs::Refusals::after))]
+pub fn code_sum(dims: u32, query: &[u8], code: &[u8], out: &mut [u8]) -> Result<(), Refusal>
+    ensures { (status result, out.new) ≡ code_sum_answer dims query.now code.now out.old }
 {
-    if bad_dims(dims, MOST_DIMS) {
-        return BAD_DIMS;
-    }
-    let size = code::parts::size(dims as usize);
-    let other = bad_lengths(code.len(), size, out.len(), 4);
-    let r = refusal(dims, query, other);
-    if r != ACCEPTED {
-        return r;
-    }
-    let mut t = [0u64; PLANES];
-    put_number(out, parts::code_sum(query, code, &mut t));
-    ACCEPTED
+    let dims = Dims::<MOST_DIMS>::try_from(dims)?;
+    has_length(query, dims.get())?;
+    has_length(code, code_size(dims))?;
+    has_length(out, 4)?;
+    let query = QueryCodes::judged(dims, query)?;
+    let mut room = [0u64; PLANES];
+    let planes = Planes::binarize(&query, &mut room);
+    put_number(out, planes.asymmetric_binary_dot_product(words_of(code)));
+    Ok(())
 }

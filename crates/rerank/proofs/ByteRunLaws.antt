@@ -16,17 +16,18 @@ use Rattle.words.specs.Refusals.{after, bad_length, bad_lists}
 use Rattle.words.proofs.ByteLaws.{num_bytes}
 use Rattle.words.proofs.RefusalLaws.{no_row, neither, after-accepted}
 use Rattle.words.proofs.WordsLaws.{num_words}
-use Rattle.rerank.specs.Rerank.{State, answer_of, next_refusal, supply_refusal, supplied, counted, Event, asked, supply, gave, done, Accepted}
+use Rattle.rerank.specs.Rerank.{State, answer_of, next_refusal, supply_refusal, supplied, counted, Event, supply, Accepted}
 use Rattle.rerank.specs.Rerank.{then, ran, Run}
 use Rattle.rerank.specs.Calls.{state_of, answer_number, answer_place, answer_bits, answer_marks, answer_bytes, next_number, next_answer, supply_number}
 use Rattle.rerank.specs.Calls.{supply_answer}
+use Rattle.rerank.specs.Parts.{event_of}
 use Rattle.rerank.specs.Demand.{Lists, Call, next, supplies, held, call, told, seen, reported, left, heard, not_waiting}
 use Rattle.rerank.specs.declared.Answer.{Answer}
 use Rattle.rerank.specs.declared.Answer.TheVariants.{Ask, Give, Done}
 use Rattle.rerank.proofs.RuleLaws.{Clean, next_clean, means}
 use Rattle.rerank.proofs.RunLaws.{giving, supplying, run_join, ran-join, clean_then, then-estimate}
 use Rattle.rerank.proofs.TallyLaws.{counted_few, counted_is}
-use Rattle.scan.specs.Parts.{Sized}
+use Rattle.scan.specs.Lists.{Sized, places}
 use Rattle.rerank.proofs.FoundLaws.{sized_of}
 use Rattle.rerank.proofs.StateLaws.{state_given, state_supplied}
 
@@ -42,12 +43,6 @@ word_back a n j h l = num_words (answer_bytes a n) 4 j (words_of_lem a n) (all �
 
     all : take 16 (answer_bytes a n) ≡ answer_bytes a n
     all = unfold answer_bytes in unfold bytes_of in refl
-
--- the event of an answer
-abbrev pub event_of : Answer → Event
-event_of (Ask p) = asked p
-event_of (Give p x) = gave p x
-event_of Done = done
 
 told_number : (a : Answer) (n : ℕ) → num_at 4 (answer_bytes a n) 0 ≡ answer_number a
 told_number a n = word_back a n 0 (omega arith) (few a)
@@ -78,7 +73,7 @@ module _ (e d m out : List ℕ) (z : next_number e d m out ≡ 0) where
       let a = no_row (bad_lists (length e) (length d) (length m) || bad_length out 16) 2 (next_refusal (state_of e d m)) z in
       (neither (bad_lists (length e) (length d) (length m)) (bad_length out 16) a.0, a.1)
 
-  next-sized : Sized e d m
+  next-sized : Sized (places e d m)
   next-sized = sized_of e d m rows.0.0
 
   next_ok : next_refusal (state_of e d m) ≡ 0
@@ -115,7 +110,7 @@ module _ (e d m : List ℕ) (p bits : ℕ) (out : List ℕ) (z : supply_number e
       let a = no_row (bad_lists (length e) (length d) (length m) || bad_length out 4) 2 (supply_refusal (state_of e d m) p (of_bits binary32 bits)) z in
       ((neither (bad_lists (length e) (length d) (length m)) (bad_length out 4) a.0).0, a.1)
 
-  supply-sized : Sized e d m
+  supply-sized : Sized (places e d m)
   supply-sized = sized_of e d m supply-rows.0
 
   supply-inside : p < length m

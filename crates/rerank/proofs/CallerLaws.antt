@@ -11,6 +11,7 @@ use Rattle.words.specs.Bytes.{f32_at, float_bytes}
 use Rattle.words.specs.Refusals.{after, bad_length, bad_lists}
 use Rattle.rerank.specs.Rerank.{State, answer_of, supplied, given, counted, Event, asked, supply, gave, done, Accepted, then, Run, tally, an_ask, a_supply}
 use Rattle.rerank.specs.Calls.{state_of, answer_marks, next_number, next_answer, supply_number, supply_answer}
+use Rattle.rerank.specs.Parts.{event_of}
 use Rattle.rerank.specs.Demand.{Lists, Call, next, supplies, fresh, held, call, told, seen, left, numbers, heard, reply, turn, turns, Finishes}
 use Rattle.rerank.specs.declared.Answer.{Answer}
 use Rattle.rerank.specs.declared.Answer.TheVariants.{Ask, Give, Done}
@@ -18,7 +19,7 @@ use Rattle.rerank.proofs.OrderLaws.{Num}
 use Rattle.rerank.proofs.RuleLaws.{Clean, clean_next, clean_supply, means}
 use Rattle.rerank.proofs.RunLaws.{Fresh, clean_then}
 use Rattle.rerank.proofs.TallyLaws.{total, total-supplied, total-given, total_each, at_done, finished}
-use Rattle.rerank.proofs.ByteRunLaws.{event_of, told_is, place_fits, distance_fits, supply_state, calls_run}
+use Rattle.rerank.proofs.ByteRunLaws.{told_is, place_fits, distance_fits, supply_state, calls_run}
 use Rattle.rerank.proofs.StateLaws.{state_given}
 
 -- ---- fresh lists

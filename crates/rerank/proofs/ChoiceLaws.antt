@@ -1,11 +1,9 @@
 -- The answer by the least keys is the rule's. Assumes nothing.
 use mathlib.Core.Path.{◌≡◌, refl, sym, ◌∙◌}
-use mathlib.Core.Logic.{inl, inr}
-use mathlib.Core.Bool.{Bool, true, false}
+use mathlib.Core.Bool.{Bool, true, false, cond}
 use mathlib.Core.List.{List}
-use mathlib.Core.Option.{Option, none, some}
-use Prim.Native.Nat.{ℕ, ◌+◌, ◌*◌, ◌<◌, ◌≤◌}
-use native.Mathlib.Decide.{dec_lt}
+use mathlib.Core.Option.{Option as Found, none, some}
+use Prim.Native.Nat.{ℕ, ◌*◌, ◌<◌, ◌≤◌}
 use native.Mathlib.Omega.{arith}
 use borrow.Author.Tests.{lt-ltb, le-ltb, eqb-true, eq-eqb}
 use lib.Dec.{eqb, ltb}
@@ -14,17 +12,20 @@ use lib.Ieee.{binary32, lt}
 use lib.Ieee.Bits.{nan_bits_is}
 use Rattle.words.specs.Bytes.{num_at, f32_at}
 use Rattle.rerank.specs.Rerank.{least, IsLeast, choose, answer_of}
-use Rattle.rerank.specs.Calls.{state_of}
-use Rattle.scan.specs.Parts.{key_of, no_key, key_if, key_at, least_key, Sized, FirstAt}
-use Rattle.rerank.specs.Parts.{Accepting}
+use Rattle.std.specs.Prelude.{Some, None}
+use Rattle.std.specs.declared.option.Option.{Option}
+use Rattle.scan.specs.Lists.{Places}
+use Rattle.scan.specs.Parts.{key_of, no_key, key_if, key_at, waiting_key, asked_key, least_key, LeastOf, FirstPlace}
+use Rattle.scan.specs.declared.pass.Least.{Least}
+use Rattle.rerank.specs.Parts.{held, Accepting, Asks, Gives}
+use Rattle.rerank.specs.declared.Answer.{Answer}
 use Rattle.rerank.specs.declared.Answer.TheVariants.{Ask, Give, Done}
-use Rattle.scan.specs.declared.Scan.{Scan}
+use Rattle.scan.specs.declared.pass.Scan.{Scan}
 use Rattle.rerank.proofs.OrderLaws.{Num}
 use Rattle.scan.proofs.KeyLaws.{key_less, key_high}
 use Rattle.rerank.proofs.LeastLaws.{Numbers, Says, least-says, least_is, least-none}
 use Rattle.rerank.proofs.RuleLaws.{Clean, next_clean}
-use Rattle.scan.proofs.ScanLaws.{key_low, key_most, key_hit}
-use Rattle.rerank.proofs.FoundLaws.{sized_of}
+use Rattle.scan.proofs.ScanLaws.{key_low, least_of}
 
 -- ---- the key of a place that has the mark
 key_of_lem : (k : ℕ) (s m : List ℕ) (q : ℕ) → get_or m q 0 ≡ k → key_at k s m q ≡ key_of (num_at 4 s (4 * q))
@@ -60,126 +61,94 @@ module _ (k : ℕ) (s m : List ℕ) (num : Numbers k (f32_at s) (λ i. get_or m 
   none-marked z q h e = omega (arith, key_low (key_at k s m) (length m) q h, key_under k s m q (num q h e) e)
 
   -- the first place of the least key is the least place
-  module _ (from key p : ℕ) (is : key ≡ least_key (length m) (key_at k s m)) (under : key < no_key)
-      (ahead : (q : ℕ) → q < from → key < key_at k s m q) (f : FirstAt (key_at k s m) from (length m) key p) where
-    not_yet : (q : ℕ) → q < p → key_at k s m q ≡ key → ⊥
-    not_yet q l e = elim (dec_lt q from) [ yes h ↦ omega (arith, ahead q h) | no g ↦ f.none_before q (omega arith) l e ]
-
-    inside : p < length m
-    inside =
-        elim (key_hit (key_at k s m) (length m)) [
-          | inl z ↦ absurd (omega arith)
-          | inr x ↦ elim (dec_lt p (length m)) [ yes l ↦ l | no g ↦ absurd (not_yet x.0 (omega (arith, x.1, f.inside)) (x.2 ∙ sym is)) ]
-        ]
-
-    pub found_key : key_at k s m p ≡ key
-    found_key = f.here inside
-
+  module _ (key p : ℕ) (is : key ≡ least_key (length m) (key_at k s m)) (under : key < no_key) (f : FirstPlace (key_at k s m) (length m) key p) where
     marked : get_or m p 0 ≡ k
-    marked = marked_of k s m p (omega (arith, found_key))
+    marked = marked_of k s m p (omega (arith, f.here))
 
     pub found_least : IsLeast k (f32_at s) (λ i. get_or m i 0) (length m) p
     found_least =
         record {
-          inside = inside;
+          inside = f.inside;
           marked = marked;
-          low = λ q h e. key_order k k s s m q p (num q h e) e (num p inside marked) marked
-              ∙ le-ltb (key_at k s m q) (key_at k s m p) (omega (arith, key_low (key_at k s m) (length m) q h, found_key));
-          first = λ q h e. let l : q < length m = omega (arith, inside) in key_order k k s s m p q (num p inside marked) marked (num q l e) e
+          low = λ q h e. key_order k k s s m q p (num q h e) e (num p f.inside marked) marked
+              ∙ le-ltb (key_at k s m q) (key_at k s m p) (omega (arith, key_low (key_at k s m) (length m) q h, f.here));
+          first = λ q h e. let l : q < length m = omega (arith, f.inside) in key_order k k s s m p q (num p f.inside marked) marked (num q l e) e
               ∙ lt-ltb (key_at k s m p) (key_at k s m q) (before q h l);
         }
       where
         before : (q : ℕ) → q < p → q < length m → key_at k s m p < key_at k s m q
         before q h l =
             let low = key_low (key_at k s m) (length m) q l in
-            let n : key_at k s m q ≡ key → ⊥ = not_yet q h in
-            omega (arith, found_key)
+            let n : key_at k s m q ≡ key → ⊥ = f.none_before q h in
+            omega (arith, f.here)
 
 -- ---- both lists
-module _ (e d m : List ℕ) (s : Scan) (a : Accepting e d m s) where
-  clean : Clean (state_of e d m)
-  clean = next_clean (state_of e d m) a.accepted
+module _ (l : Places) (s : Scan) (a : Accepting l s) where
+  clean : Clean (held l)
+  clean = next_clean (held l) a.accepted
 
-  waiting : Numbers 0 (f32_at e) (λ i. get_or m i 0) (length m)
+  waiting : Numbers 0 (f32_at l.estimates) (λ i. get_or l.marks i 0) (length l.marks)
   waiting q h z = clean.numbers q h
 
-  sized : Sized e d m
-  sized = sized_of e d m a.sized
+  -- the least key, where there is one, as a call has it in o
+  pub waiting_of : (o r : Option Least) → r ≡ o → r ≡ cond (eqb s.waiting.key no_key) None (Some s.waiting) → LeastOf (waiting_key l) (length l.marks) o
+  waiting_of o r e h = rw (sym h ∙ e) at (least_of (waiting_key l) (length l.marks) s.waiting a.scanned.waiting)
 
-  waiting_is : s.keys.waiting ≡ least_key (length m) (key_at 0 e m)
-  waiting_is = a.scanned.keys.waiting
-
-  asked_is : s.keys.asked ≡ least_key (length m) (key_at 1 d m)
-  asked_is = a.scanned.keys.asked
+  pub asked_of : (o r : Option Least) → r ≡ o → r ≡ cond (eqb s.asked.key no_key) None (Some s.asked) → LeastOf (asked_key l) (length l.marks) o
+  asked_of o r e h = rw (sym h ∙ e) at (least_of (asked_key l) (length l.marks) s.asked a.scanned.asked)
 
   -- Ask: a waiting place has the least key of all
-  module _ (p : ℕ) (l : s.keys.waiting < s.keys.asked) (f : FirstAt (key_at 0 e m) s.waits_from (length m) s.keys.waiting p) where
-    some_waits : s.keys.waiting < no_key
-    some_waits = omega (arith, asked_is, key_most (key_at 1 d m) (length m))
-
-    first_waiting : IsLeast 0 (f32_at e) (λ i. get_or m i 0) (length m) p
-    first_waiting = found_least 0 e m waiting s.waits_from s.keys.waiting p waiting_is some_waits a.scanned.waits_from_lem f
-
-    waiting_key : key_at 0 e m p ≡ s.keys.waiting
-    waiting_key = found_key 0 e m waiting s.waits_from s.keys.waiting p waiting_is some_waits a.scanned.waits_from_lem f
-
-    pub ask_small : p < 0x1_0000_0000
-    ask_small = omega (arith, first_waiting.inside, sized.most)
-
-    pub says_ask : Ask p ≡ answer_of (state_of e d m)
+  module _ (w : Least) (o : LeastOf (waiting_key l) (length l.marks) (Some w)) (below : w.key < least_key (length l.marks) (asked_key l)) where
+    pub says_ask : (x : Answer) → Asks l w.key x → x ≡ answer_of (held l)
     unfolding answer_of choose
-    says_ask =
-        rw (least_is 0 (f32_at e) (λ i. get_or m i 0) (length m) p waiting first_waiting)
-        (go (least 1 (f32_at d) (λ i. get_or m i 0) (length m)) (least-says 1 (f32_at d) (λ i. get_or m i 0) (length m) clean.held))
+    says_ask (Ask p) f =
+        rw (least_is 0 (f32_at l.estimates) (λ i. get_or l.marks i 0) (length l.marks) p waiting is)
+        (go (least 1 (f32_at l.distances) (λ i. get_or l.marks i 0) (length l.marks))
+        (least-says 1 (f32_at l.distances) (λ i. get_or l.marks i 0) (length l.marks) clean.held))
       where
-        ahead : (q : ℕ) → q < length m → get_or m q 0 ≡ 1 → lt (f32_at e p) (f32_at d q) ≡ true
-        ahead q h x =
-            key_order 0 1 e d m p q (waiting p first_waiting.inside first_waiting.marked) first_waiting.marked (clean.held q h x) x
-            ∙ lt-ltb (key_at 0 e m p) (key_at 1 d m q) (omega (arith, waiting_key, key_low (key_at 1 d m) (length m) q h, asked_is))
+        is : IsLeast 0 (f32_at l.estimates) (λ i. get_or l.marks i 0) (length l.marks) p
+        is = found_least 0 l.estimates l.marks waiting w.key p o.1.key o.0 f
 
-        go : (o : Option ℕ) → Says 1 (f32_at d) (λ i. get_or m i 0) (length m) o → Ask p ≡ choose (state_of e d m) (some p) o
+        ahead : (q : ℕ) → q < length l.marks → get_or l.marks q 0 ≡ 1 → lt (f32_at l.estimates p) (f32_at l.distances q) ≡ true
+        ahead q h x =
+            key_order 0 1 l.estimates l.distances l.marks p q (waiting p is.inside is.marked) is.marked (clean.held q h x) x
+            ∙ lt-ltb (waiting_key l p) (asked_key l q) (omega (arith, f.here, below, key_low (asked_key l) (length l.marks) q h))
+
+        go : (o : Found ℕ) → Says 1 (f32_at l.distances) (λ i. get_or l.marks i 0) (length l.marks) o → Ask p ≡ choose (held l) (some p) o
         go none y = refl
         go (some q) y = rw (ahead q y.inside y.marked)
+    says_ask (Give p d) f = absurd f
+    says_ask Done f = absurd f
 
   -- Done: there is no key
-  pub says-done : s.keys.asked ≤ s.keys.waiting → s.keys.asked ≡ no_key → Done ≡ answer_of (state_of e d m)
+  pub says-done : LeastOf (waiting_key l) (length l.marks) None → LeastOf (asked_key l) (length l.marks) None → Done ≡ answer_of (held l)
   unfolding answer_of choose
-  says-done g z =
-      let w : least_key (length m) (key_at 0 e m) ≡ no_key = omega (arith, waiting_is, key_most (key_at 0 e m) (length m)) in
+  says-done w z =
       rw (
-        least-none 0 (f32_at e) (λ i. get_or m i 0) (length m) waiting (none-marked 0 e m waiting w),
-        least-none 1 (f32_at d) (λ i. get_or m i 0) (length m) clean.held (none-marked 1 d m clean.held (sym asked_is ∙ z)),
+        least-none 0 (f32_at l.estimates) (λ i. get_or l.marks i 0) (length l.marks) waiting (none-marked 0 l.estimates l.marks waiting w),
+        least-none 1 (f32_at l.distances) (λ i. get_or l.marks i 0) (length l.marks) clean.held (none-marked 1 l.distances l.marks clean.held z),
       )
 
   -- Give: an asked place has a key, and no waiting one a lesser
-  module _ (p : ℕ) (g : s.keys.asked ≤ s.keys.waiting) (z : s.keys.asked ≡ no_key → ⊥)
-      (f : FirstAt (key_at 1 d m) s.asked_from (length m) s.keys.asked p) where
-    some-asked : s.keys.asked < no_key
-    some-asked = omega (arith, asked_is, key_most (key_at 1 d m) (length m))
-
-    first_asked : IsLeast 1 (f32_at d) (λ i. get_or m i 0) (length m) p
-    first_asked = found_least 1 d m clean.held s.asked_from s.keys.asked p asked_is some-asked a.scanned.asked-from f
-
-    asked_key : key_at 1 d m p ≡ s.keys.asked
-    asked_key = found_key 1 d m clean.held s.asked_from s.keys.asked p asked_is some-asked a.scanned.asked-from f
-
-    pub give_small : p < 0x1_0000_0000
-    give_small = omega (arith, first_asked.inside, sized.most)
-
-    pub give_room : 4 * p + 4 ≤ length d
-    give_room = omega (arith, first_asked.inside, sized.distances)
-
-    pub says_give : Give p (f32_at d p) ≡ answer_of (state_of e d m)
+  module _ (b : Least) (o : LeastOf (asked_key l) (length l.marks) (Some b)) (below : b.key ≤ least_key (length l.marks) (waiting_key l)) where
+    pub says_give : (x : Answer) → Gives l b.key x → x ≡ answer_of (held l)
     unfolding answer_of choose
-    says_give =
-        rw (least_is 1 (f32_at d) (λ i. get_or m i 0) (length m) p clean.held first_asked)
-        (go (least 0 (f32_at e) (λ i. get_or m i 0) (length m)) (least-says 0 (f32_at e) (λ i. get_or m i 0) (length m) waiting))
+    says_give (Ask p) f = absurd f
+    says_give (Give p d) f =
+        rw (f.1, least_is 1 (f32_at l.distances) (λ i. get_or l.marks i 0) (length l.marks) p clean.held is)
+        (go (least 0 (f32_at l.estimates) (λ i. get_or l.marks i 0) (length l.marks))
+        (least-says 0 (f32_at l.estimates) (λ i. get_or l.marks i 0) (length l.marks) waiting))
       where
-        behind : (q : ℕ) → q < length m → get_or m q 0 ≡ 0 → lt (f32_at e q) (f32_at d p) ≡ false
-        behind q h x =
-            key_order 0 1 e d m q p (waiting q h x) x (clean.held p first_asked.inside first_asked.marked) first_asked.marked
-            ∙ le-ltb (key_at 0 e m q) (key_at 1 d m p) (omega (arith, asked_key, key_low (key_at 0 e m) (length m) q h, waiting_is))
+        is : IsLeast 1 (f32_at l.distances) (λ i. get_or l.marks i 0) (length l.marks) p
+        is = found_least 1 l.distances l.marks clean.held b.key p o.1.key o.0 f.0
 
-        go : (o : Option ℕ) → Says 0 (f32_at e) (λ i. get_or m i 0) (length m) o → Give p (f32_at d p) ≡ choose (state_of e d m) o (some p)
+        behind : (q : ℕ) → q < length l.marks → get_or l.marks q 0 ≡ 0 → lt (f32_at l.estimates q) (f32_at l.distances p) ≡ false
+        behind q h x =
+            key_order 0 1 l.estimates l.distances l.marks q p (waiting q h x) x (clean.held p is.inside is.marked) is.marked
+            ∙ le-ltb (waiting_key l q) (asked_key l p) (omega (arith, f.0.here, below, key_low (waiting_key l) (length l.marks) q h))
+
+        go : (o : Found ℕ) → Says 0 (f32_at l.estimates) (λ i. get_or l.marks i 0) (length l.marks) o
+            → Give p (f32_at l.distances p) ≡ choose (held l) o (some p)
         go none y = refl
         go (some q) y = rw (behind q y.inside y.marked)
+    says_give Done f = absurd f

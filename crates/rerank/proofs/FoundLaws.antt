@@ -2,10 +2,10 @@
 use mathlib.Core.Path.{◌≡◌, refl, sym, ap, ap₂, ◌∙◌}
 use mathlib.Core.Bool.{Bool, true, false, not, ◌&&◌, ◌||◌, cond}
 use mathlib.Core.List.{List}
-use Prim.Native.Nat.{ℕ, zero, suc, ◌+◌, ◌*◌}
+use Prim.Native.Nat.{ℕ, zero, suc, ◌+◌, ◌*◌, ◌<◌, ◌≤◌}
 use native.Mathlib.Nat.{zero-add}
 use native.Mathlib.Omega.{arith}
-use borrow.Author.Tests.{lt-ltb}
+use borrow.Author.Tests.{lt-ltb, le-ltb}
 use lib.Dec.{eqb, leb, ltb}
 use lib.ListN.{length, get_or}
 use lib.Ieee.{binary32, nan_bits}
@@ -16,12 +16,13 @@ use Rattle.words.specs.Lists.{any_below}
 use Rattle.words.specs.Refusals.{bad_lists}
 use Rattle.words.specs.Sums.{sum_to}
 use Rattle.words.proofs.RefusalLaws.{lists_are}
-use Rattle.scan.specs.Parts.{Sized, lacks, lack_at, above_most, ScanTo}
-use Rattle.scan.specs.declared.Scan.{Scan}
+use Rattle.scan.specs.Lists.{Places, Sized, places}
+use Rattle.scan.specs.Parts.{lacks, lack_at, above_most, ScanTo}
+use Rattle.scan.specs.declared.pass.Scan.{Scan}
 use Rattle.rerank.specs.Rerank.{missing_at, missing, bad_mark, next_refusal}
-use Rattle.rerank.specs.Calls.{state_of}
+use Rattle.rerank.specs.Parts.{held}
 
-pub sized_of : (e d m : List ℕ) → bad_lists (length e) (length d) (length m) ≡ false → Sized e d m
+pub sized_of : (e d m : List ℕ) → bad_lists (length e) (length d) (length m) ≡ false → Sized (places e d m)
 sized_of e d m h = let l = lists_are (length e) (length d) (length m) h in record { most = l.0; estimates = l.1; distances = l.2 }
 
 -- ---- the refusal that the scan finds
@@ -34,10 +35,10 @@ any_sum p f (suc n) h = either (sum_to n f) (f n) ∙ ap₂ (λ (a b : Bool). a 
     either zero b = ap (ltb 0) (zero-add b)
     either (suc a) b = lt-ltb 0 (suc a + b) (omega arith) ∙ sym (ap (λ (t : Bool). t || ltb 0 b) (lt-ltb 0 (suc a) (omega arith)))
 
-module _ (e d m : List ℕ) (s : Scan) (k : ScanTo e d m (length m) s) where
-  found_missing : ltb 0 s.keys.missing ≡ missing (state_of e d m)
+module _ (l : Places) (s : Scan) (k : ScanTo l (length l.marks) s) where
+  found_missing : ltb 0 s.missing ≡ missing (held l)
   unfolding missing
-  found_missing = rw k.keys.missing (any_sum (missing_at (state_of e d m)) (lack_at e d m) (length m) here)
+  found_missing = rw k.missing (any_sum (missing_at (held l)) (lack_at l) (length l.marks) here)
     where
       go : (a b c : Bool) → ltb 0 (cond a 1 0 + cond b (cond c 1 0) 0) ≡ (a || (b && c))
       go true true true = refl
@@ -47,19 +48,29 @@ module _ (e d m : List ℕ) (s : Scan) (k : ScanTo e d m (length m) s) where
       go false true false = refl
       go false false c = refl
 
-      here : (i : ℕ) → ltb 0 (lack_at e d m i) ≡ missing_at (state_of e d m) i
+      here : (i : ℕ) → ltb 0 (lack_at l i) ≡ missing_at (held l) i
       here i = unfold lack_at in unfold lacks in unfold missing_at in unfold f32_at in
-          rw (← nan_bits_is binary32 (num_at 4 e (4 * i)), ← nan_bits_is binary32 (num_at 4 d (4 * i)))
-          (go (nan_bits binary32 (num_at 4 e (4 * i))) (eqb (get_or m i 0) 1) (nan_bits binary32 (num_at 4 d (4 * i))))
+          rw (← nan_bits_is binary32 (num_at 4 l.estimates (4 * i)), ← nan_bits_is binary32 (num_at 4 l.distances (4 * i)))
+          (go (nan_bits binary32 (num_at 4 l.estimates (4 * i))) (eqb (get_or l.marks i 0) 1) (nan_bits binary32 (num_at 4 l.distances (4 * i))))
 
-  found_bad : ltb 0 s.bad ≡ bad_mark (state_of e d m)
+  found_bad : ltb 0 s.bad ≡ bad_mark (held l)
   unfolding bad_mark
-  found_bad = rw k.bad (any_sum (λ i. not (leb (get_or m i 0) most_mark)) (λ i. above_most (get_or m i 0)) (length m) (λ i. go (leb (get_or m i 0) most_mark)))
+  found_bad = rw k.bad (any_sum (λ i. not (leb (get_or l.marks i 0) most_mark)) (λ i. above_most (get_or l.marks i 0)) (length l.marks)
+      (λ i. go (leb (get_or l.marks i 0) most_mark)))
     where
       go : (b : Bool) → ltb 0 (cond b 0 1) ≡ not b
       go true = refl
       go false = refl
 
-  pub found_refusal : cond (ltb 0 s.keys.missing) 4 (cond (ltb 0 s.bad) 5 0) ≡ next_refusal (state_of e d m)
+  pub missing_refused : 0 < s.missing → next_refusal (held l) ≡ 4
   unfolding next_refusal
-  found_refusal = rw (found_missing, found_bad)
+  missing_refused h = rw (sym found_missing ∙ lt-ltb 0 s.missing h)
+
+  module _ (none : s.missing ≤ 0) where
+    pub bad_refused : 0 < s.bad → next_refusal (held l) ≡ 5
+    unfolding next_refusal
+    bad_refused h = rw (sym found_missing ∙ le-ltb 0 s.missing none, sym found_bad ∙ lt-ltb 0 s.bad h)
+
+    pub none_found : s.bad ≤ 0 → next_refusal (held l) ≡ 0
+    unfolding next_refusal
+    none_found h = rw (sym found_missing ∙ le-ltb 0 s.missing none, sym found_bad ∙ le-ltb 0 s.bad h)

@@ -1,27 +1,58 @@
 -- What the workers of module 9 promise each other: what a scan of the lists means for a call. No public promise cites this file.
-use Rattle.std.specs.Prelude.{◌≡◌, Bool, false, ◌||◌, cond, List, ℕ, ltb, length}
-use Rattle.words.specs.Refusals.{bad_lists}
-use Rattle.scan.specs.Parts.{ScanTo}
-use Rattle.scan.specs.declared.Scan.{Scan}
-use Rattle.rerank.specs.Rerank.{answer_of, next_refusal, counted}
+use Rattle.std.specs.Prelude.{◌≡◌, ◌<◌, ◌⊎◌, List, ℕ, length, Ok, Err}
+use Rattle.std.specs.declared.result.Result.{Result}
+use Rattle.words.specs.Bytes.{num_at, f32_at}
+use Rattle.words.specs.Refusals.{number_of}
+use Rattle.words.specs.declared.refusal.Refusal.{Refusal}
+use Rattle.scan.specs.Lists.{Places, Sized}
+use Rattle.scan.specs.Parts.{waiting_key, asked_key, FirstPlace, ScanTo}
+use Rattle.scan.specs.declared.pass.Scan.{Scan}
+use Rattle.rerank.specs.Rerank.{State, Event, asked, gave, done, answer_of, next_refusal, counted}
+use Rattle.rerank.specs.Demand.{told}
 use Rattle.rerank.specs.Calls.{state_of}
+use Rattle.rerank.specs.declared.Answer.{Answer}
+use Rattle.rerank.specs.declared.Answer.TheVariants.{Ask, Give, Done}
 use Rattle.rerank.specs.declared.Ruling.{Ruling}
 
--- what a call that is not refused has found
-pub record Accepting (e d m : List ℕ) (s : Scan) : Type 0 where
-  pub sized : bad_lists (length e) (length d) (length m) ≡ false
-  pub scanned : ScanTo e d m (length m) s
-  pub accepted : next_refusal (state_of e d m) ≡ 0
+-- the state that the lists hold
+abbrev pub held : Places → State
+held l = state_of l.estimates l.distances l.marks
 
--- the refusals 4 and 5, by the counts of a scan; `nan` tells of a NaN beside the lists
-unfoldable pub found_number : Bool → ℕ → ℕ → ℕ
-found_number nan missing bad = cond nan 4 (cond (ltb 0 missing) 4 (cond (ltb 0 bad) 5 0))
+-- the event of an answer
+abbrev pub event_of : Answer → Event
+event_of (Ask p) = asked p
+event_of (Give p x) = gave p x
+event_of Done = done
 
--- the refusals 3 to 5 of a call on the lists: `other` is that `out` is not of its length
-unfoldable pub lists_number : List ℕ → List ℕ → List ℕ → Bool → Bool → ℕ
-lists_number e d m other nan = cond (bad_lists (length e) (length d) (length m) || other) 3 (cond nan 4 (next_refusal (state_of e d m)))
+-- the answer that next's bytes tell; there is none where they are not 16, or their number is no answer's
+abbrev pub Told : List ℕ → Result Answer Refusal → Type 0
+Told out (Ok a) = told out ≡ event_of a
+Told out (Err f) = (length out ≡ 16 → ⊥) ⊎ (2 < num_at 4 out 0)
 
--- what a call on the lists is refused with, or the answer and the count
-pub record Ruled (e d m : List ℕ) (other nan : Bool) (r : Ruling) : Type 0 where
-  pub refusal : r.refused ≡ lists_number e d m other nan
-  pub says : r.refused ≡ 0 → (r.answer ≡ answer_of (state_of e d m)) × (r.count ≡ counted (state_of e d m))
+-- a Give is of one of n places
+abbrev pub Inside : ℕ → Answer → Type 0
+Inside n (Ask p) = Unit {0}
+Inside n (Give p x) = p < n
+Inside n Done = Unit {0}
+
+-- what is known of lists that are not refused
+pub record Accepting (l : Places) (s : Scan) : Type 0 where
+  pub sized : Sized l
+  pub scanned : ScanTo l (length l.marks) s
+  pub accepted : next_refusal (held l) ≡ 0
+
+-- the answer is Ask of the first waiting place with the key, or Give of the first asked one
+abbrev pub Asks : Places → ℕ → Answer → Type 0
+Asks l key (Ask p) = FirstPlace (waiting_key l) (length l.marks) key p
+Asks l key (Give p d) = ⊥
+Asks l key Done = ⊥
+
+abbrev pub Gives : Places → ℕ → Answer → Type 0
+Gives l key (Ask p) = ⊥
+Gives l key (Give p d) = FirstPlace (asked_key l) (length l.marks) key p × (d ≡ f32_at l.distances p)
+Gives l key Done = ⊥
+
+-- the refusal of lists of one length, or the answer and the count
+abbrev pub Ruled : Places → Result Ruling Refusal → Type 0
+Ruled l (Ok r) = (next_refusal (held l) ≡ 0) × (r.answer ≡ answer_of (held l)) × (r.count ≡ counted (held l))
+Ruled l (Err f) = next_refusal (held l) ≡ number_of f

@@ -2,125 +2,130 @@
 // become one scan over the lists (crate scan), the callback becomes Ask and supply.
 #![tactic(auto)]
 
-ghost use Rattle.std.specs.Prelude.{◌≡◌, false, ◌||◌, cond, ◌+◌, ◌*◌, ◌<◌, ◌++◌, length};
+ghost use Rattle.std.specs.Prelude.{◌≡◌, ◌+◌, ◌*◌, ◌<◌, ◌++◌, length, Some};
 ghost use Rattle.words.specs.Bytes.{bytes_of, float_bytes};
-ghost use Rattle.words.specs.Refusals.{or_else, bad_lists};
+ghost use Rattle.words.specs.Refusals.{status};
 ghost use Rattle.rerank.specs.Rerank.{answer_of, asks_for};
-ghost use Rattle.rerank.specs.Calls.{state_of, next_answer, supply_answer, answer_bytes, answer_marks};
-ghost use Rattle.rerank.specs.Parts.{Accepting, found_number, Ruled};
+ghost use Rattle.rerank.specs.Calls.{next_answer, supply_answer, answer_bytes, answer_marks};
+ghost use Rattle.rerank.specs.Parts.{held, Told, Inside, Accepting, Asks, Gives, Ruled};
+ghost use Rattle.scan.specs.Parts.{waiting_key, asked_key, LeastOf};
 
-use scan::{NO_KEY, Scan, first_at, scan_lists};
+use scan::{Least, Lists, Scan};
+use words::{Refusal, has_length};
 
-// The answers' numbers in next's out.
-pub const DONE: u32 = 0;
+// The answers' numbers in next's out, as include/lintelkite.h has them.
+const DONE: u32 = 0;
 
-pub const ASK: u32 = 1;
+const ASK: u32 = 1;
 
-pub const GIVE: u32 = 2;
+const GIVE: u32 = 2;
 
 // What the rule says to do next: ask for a place's distance, hand a place out, or nothing.
-#[derive(Clone, Copy)]
+#[derive(Clone, Copy, Debug, PartialEq)]
 pub enum Answer {
     Ask(u32),
     Give(u32, f32),
     Done,
 }
 
-// Whether the lists are not of their lengths, or another buffer is not.
-fn bad_lengths(e: &[u8], d: &[u8], m: &[u8], other: bool) -> bool
-    ensures { result ≡ (bad_lists (length e.now) (length d.now) (length m.now) || other) }
-{
-    if words::bad_lists(e.len(), d.len(), m.len()) {
-        return true;
+impl Answer {
+    // A place is now asked for exactly when the answer is Ask of it.
+    #[tactic(auto, unfolding(crate::specs::Rerank::asks_for))]
+    fn asks_for(self, place: u32) -> bool
+        ensures { result ≡ asks_for self place }
+    {
+        matches!(self, Answer::Ask(p) if p == place)
     }
-    other
 }
 
-// What the rule says, by what the scan found. NO_KEY is above every key, so that no test for an empty set is needed before the first.
-fn choose(e: &[u8], d: &[u8], m: &[u8], s: Scan) -> Answer
-    requires { Accepting e.now d.now m.now s }
-    ensures { result ≡ answer_of (state_of e.now d.now m.now) }
-{
-    let keys = s.keys;
-    if keys.waiting < keys.asked {
-        let w = first_at(e, m, words::WAITING, keys.waiting, s.waits_from);
-        return Answer::Ask(w as u32);
+// Reads next's out back.
+impl TryFrom<&[u8]> for Answer {
+    type Error = Refusal;
+
+    ghost try_from_gives = { λ out r. Told out.now r };
+
+    #[tactic(auto, unfolding(crate::specs::Demand::told, words::specs::Refusals::bad_length))]
+    fn try_from(out: &[u8]) -> Result<Answer, Refusal> {
+        has_length(out, 16)?;
+        let place = words::u32_at(out, 4);
+        match words::u32_at(out, 0) {
+            DONE => Ok(Answer::Done),
+            ASK => Ok(Answer::Ask(place)),
+            GIVE => Ok(Answer::Give(place, words::f32_at(out, 2))),
+            _ => Err(Refusal::BadValue),
+        }
     }
-    if keys.asked == NO_KEY {
-        return Answer::Done;
-    }
-    let a = first_at(d, m, words::ASKED, keys.asked, s.asked_from);
-    Answer::Give(a as u32, words::f32_at(d, a))
 }
 
-// What a call on these lists is refused with, or the answer and the count of marks 1 and 2.
+// Ask for the first waiting place of the least key.
+#[tactic(auto, using(scan::proofs::ScanLaws::some_place, scan::proofs::ScanLaws::place_of))]
+fn ask(lists: &Lists<'_>, least: Least) -> Answer
+    requires { LeastOf (waiting_key lists.now) (length lists.now.marks) (Some least) }
+    ensures { Asks lists.now least.key result }
+{
+    Answer::Ask(lists.first_waiting(least).unwrap() as u32)
+}
+
+// Give the first asked place of the least key.
+#[tactic(auto, using(scan::proofs::ScanLaws::some_place, scan::proofs::ScanLaws::place_of))]
+fn give(lists: &Lists<'_>, least: Least) -> Answer
+    requires { LeastOf (asked_key lists.now) (length lists.now.marks) (Some least) }
+    ensures { Gives lists.now least.key result }
+{
+    let place = lists.first_asked(least).unwrap();
+    Answer::Give(place as u32, lists.distance(place))
+}
+
+// What the rule says, by the least keys that the scan found.
+fn choose(lists: &Lists<'_>, s: Scan) -> Answer
+    requires { Accepting lists.now s }
+    ensures { result ≡ answer_of (held lists.now) }
+{
+    match (s.waiting(), s.asked()) {
+        (None, None) => Answer::Done,
+        (Some(w), None) => ask(lists, w),
+        (None, Some(a)) => give(lists, a),
+        (Some(w), Some(a)) => {
+            if w.key < a.key {
+                ask(lists, w)
+            } else {
+                give(lists, a)
+            }
+        }
+    }
+}
+
+// The answer for lists that are not refused, and the count of marks 1 and 2.
 #[derive(Clone, Copy)]
 struct Ruling {
-    refused: u32,
     answer: Answer,
     count: u32,
 }
 
-fn refused_with(number: u32) -> Ruling
-    ensures { result.refused ≡ number }
+// The refusals 4 and 5, or what the rule says.
+fn rule_on(lists: &Lists<'_>) -> Result<Ruling, Refusal>
+    ensures { Ruled lists.now result }
 {
-    Ruling {
-        refused: number,
-        answer: Answer::Done,
-        count: 0,
+    let s = lists.scan();
+    if 0 < s.missing {
+        return Err(Refusal::Missing);
     }
-}
-
-// The refusals 4 and 5, by what the scan found; `nan` tells of a NaN beside the lists. The tests stand in branches of their own:
-// joined, they would keep the loops before them from going by vectors.
-fn refusal(nan: bool, missing: u32, bad: u32) -> u32
-    ensures { result ≡ found_number nan missing bad }
-{
-    if nan {
-        return words::MISSING;
+    if 0 < s.bad {
+        return Err(Refusal::BadValue);
     }
-    if 0 < missing {
-        return words::MISSING;
-    }
-    if 0 < bad {
-        return words::BAD_VALUE;
-    }
-    words::ACCEPTED
-}
-
-// The refusals 3 to 5, and what the rule says. `other` is that out is not of its length.
-fn rule_on(e: &[u8], d: &[u8], m: &[u8], other: bool, nan: bool) -> Ruling
-    ensures { Ruled e.now d.now m.now other nan result }
-{
-    if bad_lengths(e, d, m, other) {
-        return refused_with(words::BAD_LENGTH);
-    }
-    let s = scan_lists(e, d, m);
-    let keys = s.keys;
-    let refused = refusal(nan, keys.missing, s.bad);
-    if refused != words::ACCEPTED {
-        return refused_with(refused);
-    }
-    Ruling {
-        refused: words::ACCEPTED,
-        answer: choose(e, d, m, s),
+    Ok(Ruling {
+        answer: choose(lists, s),
         count: s.count,
-    }
+    })
 }
 
 // A Give marks its place as given.
-fn mark_given(m: &mut [u8], a: Answer)
-    ensures { m.new ≡ answer_marks a m.old }
+fn mark_given(marks: &mut [u8], answer: Answer)
+    requires { Inside (length marks.old) answer }
+    ensures { marks.new ≡ answer_marks answer marks.old }
 {
-    match a {
-        Answer::Ask(_) => {}
-        Answer::Give(p, _) => {
-            let at = p as usize;
-            if at < m.len() {
-                m[at] = words::GIVEN;
-            }
-        }
-        Answer::Done => {}
+    if let Answer::Give(place, _) = answer {
+        marks[place as usize] = words::GIVEN;
     }
 }
 
@@ -135,6 +140,7 @@ fn put_four(out: &mut [u8], number: u32, place: u32, distance: f32, count: u32)
     words::put_u32(out, 12, count);
 }
 
+#[tactic(auto, using(crate::proofs::CallLaws::ask_bytes, crate::proofs::CallLaws::give_bytes, crate::proofs::CallLaws::done_bytes))]
 fn put_answer(out: &mut [u8], a: Answer, count: u32)
     requires { length out.old ≡ 16 }
     ensures { out.new ≡ answer_bytes a count }
@@ -147,45 +153,26 @@ fn put_answer(out: &mut [u8], a: Answer, count: u32)
 }
 
 // The next answer, written to out. A Give marks its place as given; nothing else is changed.
-pub fn next(estimates: &[u8], distances: &[u8], marks: &mut [u8], out: &mut [u8]) -> u32
-    ensures { (result, marks.new, out.new)
+#[tactic(auto, unfolding(crate::specs::Calls::next_answer, crate::specs::Calls::next_number, words::specs::Refusals::after))]
+pub fn next(
+    estimates: &[u8],
+    distances: &[u8],
+    marks: &mut [u8],
+    out: &mut [u8],
+) -> Result<(), Refusal>
+    ensures { (status result, marks.new, out.new)
         ≡ next_answer estimates.now distances.now marks.old out.old }
 {
-    let r = rule_on(estimates, distances, marks, out.len() != 16, false);
-    if r.refused != words::ACCEPTED {
-        return r.refused;
-    }
-    let a = r.answer;
-    mark_given(marks, a);
-    put_answer(out, a, r.count);
-    words::ACCEPTED
-}
-
-fn asks_for(a: Answer, place: u32) -> bool
-    ensures { result ≡ asks_for a place }
-{
-    match a {
-        Answer::Ask(p) => place == p,
-        Answer::Give(_, _) => false,
-        Answer::Done => false,
-    }
-}
-
-// The refusals of a supply, by what the rule says.
-fn judge(r: Ruling, place: u32) -> u32
-    ensures { result ≡ or_else r.refused (cond (asks_for r.answer place) 0 9) }
-{
-    if r.refused != words::ACCEPTED {
-        return r.refused;
-    }
-    let a = r.answer;
-    if asks_for(a, place) {
-        return words::ACCEPTED;
-    }
-    words::NOT_ASKED
+    let lists = Lists::judged(estimates, distances, marks)?;
+    has_length(out, 16)?;
+    let ruling = rule_on(&lists)?;
+    mark_given(marks, ruling.answer);
+    put_answer(out, ruling.answer, ruling.count);
+    Ok(())
 }
 
 // The distance of the place that is now asked for is stored, and the place marked as asked. out is the count.
+#[tactic(auto, unfolding(crate::specs::Calls::supply_answer, crate::specs::Calls::supply_number, words::specs::Refusals::after))]
 pub fn supply(
     estimates: &[u8],
     distances: &mut [u8],
@@ -193,24 +180,22 @@ pub fn supply(
     place: u32,
     distance: f32,
     out: &mut [u8],
-) -> u32
-    ensures { (result, distances.new, marks.new, out.new)
+) -> Result<(), Refusal>
+    ensures { (status result, distances.new, marks.new, out.new)
         ≡ supply_answer estimates.now distances.old marks.old place distance out.old }
 {
-    let r = rule_on(
-        estimates,
-        distances,
-        marks,
-        out.len() != 4,
-        distance != distance,
-    );
-    let refused = judge(r, place);
-    if refused != words::ACCEPTED {
-        return refused;
+    let lists = Lists::judged(estimates, distances, marks)?;
+    has_length(out, 4)?;
+    if distance.is_nan() {
+        return Err(Refusal::Missing);
+    }
+    let ruling = rule_on(&lists)?;
+    if !ruling.answer.asks_for(place) {
+        return Err(Refusal::NotAsked);
     }
     let at = place as usize;
     words::put_f32(distances, 4 * at, distance);
     marks[at] = words::ASKED;
-    words::put_number(out, r.count + 1);
-    words::ACCEPTED
+    words::put_number(out, ruling.count + 1);
+    Ok(())
 }

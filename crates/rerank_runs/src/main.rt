@@ -1,94 +1,80 @@
 // Runs the paper's two examples over the calls of `rerank` and writes what a caller hears, with the count after each Done.
 #![tactic(auto)]
 
-use std::io;
+use anyhow::Result;
+use rerank::Answer;
 
-fn say(rt: &impl Print, word: &[u8], n: u32) -> io::Result<()> {
-    rt.write_all(word)?;
-    println!(rt; "{n}")
+// The lists of a caller, and the distances that it supplies.
+#[derive(Drop)]
+struct Caller<const PLACES: usize, const BYTES: usize> {
+    estimates: [u8; BYTES],
+    distances: [u8; BYTES],
+    marks: [u8; PLACES],
+    table: [f32; PLACES],
 }
 
-// The distance of place p is supplied from the table.
-fn answer_ask(
-    rt: &impl Print,
-    est: &[u8],
-    dis: &mut [u8],
-    marks: &mut [u8],
-    p: u32,
-    table: &[f32],
-) -> io::Result<()> {
-    let at = p as usize;
-    if at < table.len() {
-        let mut out = [0u8; 4];
-        let refused = rerank::supply(est, dis, marks, p, table[at], &mut out);
-        if refused != 0 {
-            say(rt, b"Refused ", refused)?;
+impl<const PLACES: usize, const BYTES: usize> Caller<PLACES, BYTES> {
+    // Supplies the distance of a place.
+    fn supply(&mut self, place: u32) -> Result<()> {
+        if let Some(distance) = self.table.get(place as usize) {
+            let mut count = [0u8; 4];
+            rerank::supply(
+                &self.estimates,
+                &mut self.distances,
+                &mut self.marks,
+                place,
+                *distance,
+                &mut count,
+            )?;
         }
+        Ok(())
     }
-    Ok(())
-}
 
-// One call of next, and the supply that an Ask wants. False at the end.
-fn turn(
-    rt: &impl Print,
-    est: &[u8],
-    dis: &mut [u8],
-    marks: &mut [u8],
-    table: &[f32],
-) -> io::Result<bool> {
-    let mut out = [0u8; 16];
-    let refused = rerank::next(est, dis, marks, &mut out);
-    if refused != 0 {
-        say(rt, b"Refused ", refused)?;
-        return Ok(false);
+    // One call of next, and the supply that an Ask wants.
+    fn turn(&mut self, rt: &impl Print) -> Result<Answer> {
+        let mut out = [0u8; 16];
+        rerank::next(&self.estimates, &self.distances, &mut self.marks, &mut out)?;
+        let answer = Answer::try_from(&out[..])?;
+        match answer {
+            Answer::Ask(place) => {
+                println!(rt; "Ask {place}")?;
+                self.supply(place)?;
+            }
+            Answer::Give(place, _) => println!(rt; "Give {place}")?,
+            Answer::Done => {
+                let count = words::u32_at(&out, 12);
+                println!(rt; "Done {count}")?;
+            }
+        }
+        Ok(answer)
     }
-    let p = words::u32_at(&out, 4);
-    match words::u32_at(&out, 0) {
-        rerank::ASK => {
-            say(rt, b"Ask ", p)?;
-            answer_ask(rt, est, dis, marks, p, table)?;
-            Ok(true)
+
+    // Turns until Done, and at most twenty.
+    fn run(&mut self, rt: &impl Print) -> Result<()> {
+        for _ in 0..20 {
+            if self.turn(rt)? == Answer::Done {
+                break;
+            }
         }
-        rerank::GIVE => {
-            say(rt, b"Give ", p)?;
-            Ok(true)
-        }
-        _ => {
-            say(rt, b"Done ", words::u32_at(&out, 12))?;
-            Ok(false)
-        }
+        Ok(())
     }
 }
 
-fn run(
-    rt: &impl Print,
-    est: &[u8],
-    dis: &mut [u8],
-    marks: &mut [u8],
-    table: &[f32],
-) -> io::Result<()> {
-    let mut i: usize = 0;
-    while i < 20 {
-        if turn(rt, est, dis, marks, table)? {
-            i += 1;
-        } else {
-            i = 20;
-        }
-    }
-    Ok(())
-}
-
-fn main(rt: HostRuntime) -> io::Result<()> {
+fn main(rt: HostRuntime) -> Result<()> {
     // Estimates 1, 2, 3.
-    let first = [0u8, 0, 128, 63, 0, 0, 0, 64, 0, 0, 64, 64];
-    let mut dis = [0u8; 12];
-    let mut marks = [0u8; 3];
-    let table = [2.5f32, 2.0, 9.0];
-    run(&rt, &first, &mut dis, &mut marks, &table)?;
+    let mut first = Caller {
+        estimates: [0u8, 0, 128, 63, 0, 0, 0, 64, 0, 0, 64, 64],
+        distances: [0u8; 12],
+        marks: [0u8; 3],
+        table: [2.5f32, 2.0, 9.0],
+    };
+    first.run(&rt)?;
     // Estimates 1, 2.
-    let second = [0u8, 0, 128, 63, 0, 0, 0, 64];
-    let mut dis2 = [0u8; 8];
-    let mut marks2 = [0u8; 2];
-    let table2 = [2.0f32, 2.0];
-    run(&rt, &second, &mut dis2, &mut marks2, &table2)
+    let mut second = Caller {
+        estimates: [0u8, 0, 128, 63, 0, 0, 0, 64],
+        distances: [0u8; 8],
+        marks: [0u8; 2],
+        table: [2.0f32, 2.0],
+    };
+    second.run(&rt)
 }

@@ -1,78 +1,46 @@
--- The tests that `square_root` makes, one after the other, and what each leaves: a NaN, a number below 0, the infinity, a zero,
--- and then a positive number. Assumes nothing.
-use mathlib.Core.Path.{◌≡◌, refl, sym, ap, ◌∙◌, subst}
-use mathlib.Core.Bool.{Bool, true, false, cond, true≢false}
-use Prim.Native.Nat.{ℕ, zero, suc, ◌+◌, ◌-◌, ◌*◌, ◌/◌, ◌%◌, ◌^◌, ◌≤◌, ◌<◌}
-use native.Mathlib.Nat.{lt_of_not-le, zero-lt-suc, mul-pos, zero-mul, zero-div}
+-- The two cases of `square_root`: a number that is not below 0 and its root, and a number that has none. Assumes nothing.
+use mathlib.Core.Path.{◌≡◌, refl, sym, ap, subst}
+use mathlib.Core.Bool.{Bool, true, false, cond, ◌&&◌, ◌||◌, true≢false}
+use Prim.Native.Nat.{ℕ, zero, suc, ◌+◌, ◌*◌, ◌/◌, ◌%◌, ◌^◌, ◌≤◌, ◌<◌}
+use native.Mathlib.Nat.{lt_of_not-le, zero-lt-suc, mul-pos, zero-mul, pow-succ'}
 use native.Mathlib.Omega.{arith}
-use lib.IntN.{ℤ}
-use lib.Dec.{T, leb, eqb, lt→ltb}
-use lib.Ieee.{Float, nan, inf, fin, binary32, up, down, odd, of_fields, of_bits, to_bits, fits, ne, lt, size}
+use lib.IntN.{ℤ, pos, negsuc}
+use lib.Dec.{T, leb, eqb, ltb, lt→ltb, eqb→eq}
+use lib.Ieee.{Float, nan, inf, fin, binary32, up, down, odd, of_fields, of_bits, to_bits, fits, le, sqrt}
 use lib.Ieee.Fits.{up_pos}
 use lib.Ieee.Bits.{of_bits-to_bits, to_bits-lt}
-use lib.Ieee.Compare.{differs_from_itself}
 use lib.Ieee.Positive.{positive}
-use borrow.Author.Tests.{ltb-true, ltb-false, leb-true, leb-false}
+use borrow.Author.Tests.{ltb-false, leb-false, eqb-true, eq-eqb}
+use Rattle.std.proofs.lemmas.Bool.{and_parts}
+use Rattle.std.specs.Prelude.{Some, None}
+use Rattle.words.proofs.RefusalLaws.{neither}
 use Rattle.root.specs.Root.{root_of}
-use Rattle.root.specs.declared.Root.TheVariants.{Is, Missing}
+use Rattle.root.proofs.PatternLaws.{sqrt_is}
 
--- ---- x != x
+-- ---- what 0 ≤ x tells of the fields: a is 0, as a fraction with x's denominator, and b is x's number
 
-pub root_of-nan : (x : Float) → ne x x ≡ true → Missing ≡ root_of x
-unfolding root_of
-root_of-nan x h = sym (ap root_of (differs_from_itself x (subst T (sym h) tt)))
+zero_below : (a b : ℕ) → a ≡ 0 → (ltb a b || (eqb a b && true)) ≡ false → ⊥
+zero_below a b z h =
+    let p = neither (ltb a b) (eqb a b && true) h in
+    let e : a ≡ b = let l = ltb-false a b p.0 in omega arith in
+    true≢false (rw (eq-eqb a b e) at p.1)
 
--- ---- x < 0.0
+zero_same : (a b : ℕ) → a ≡ 0 → b ≡ 0 → (eqb a b && eqb a 0) ≡ false → ⊥
+zero_same a b z w h = true≢false (rw (z, w) at h)
 
-pub root_below : (x : Float) → lt x (of_bits binary32 0) ≡ true → Missing ≡ root_of x
-unfolding root_of lt of_bits
-root_below nan h = absurd (true≢false (sym h))
-root_below (inf true) h = refl
-root_below (inf false) h = absurd (true≢false (sym h))
-root_below (fin true zero e) h = let l = ltb-true 0 (0 * up e * 1 + 0 * 1 * down e) h in absurd (omega arith)
-root_below (fin true (suc m) e) h = refl
-root_below (fin false m e) h = let l = ltb-true (m * up e * 1) (0 * 1 * down e) h in absurd (omega arith)
+not_negative : (a b : ℕ) → a ≡ 0 → 0 < b → (eqb a b && eqb a 0) ≡ true → ⊥
+not_negative a b z w h = let e = eqb-true a b (and_parts _ _ h).0 in omega arith
 
--- ---- the patterns of the infinity and of the zeros
+pub root_none : (x : Float) → le (of_bits binary32 0) x ≡ false → None ≡ root_of x
+unfolding root_of le of_bits
+root_none nan h = refl
+root_none (inf true) h = refl
+root_none (inf false) h = absurd (true≢false h)
+root_none (fin true zero e) h = absurd (zero_same _ _ (zero-mul (down e)) (omega (arith, zero-mul (up e))) h)
+root_none (fin true (suc m) e) h = refl
+root_none (fin false m e) h = absurd (zero_below _ _ (zero-mul (down e)) h)
 
--- what holds of the float of the pattern c holds of x, where c is x's pattern
-at-pattern : (x : Float) → T (fits binary32 x) → (c : ℕ) → to_bits binary32 x ≡ c
-    → Is (of_bits binary32 c) ≡ root_of (of_bits binary32 c) → Is x ≡ root_of x
-at-pattern x f c e = subst (λ (v : Float). Is v ≡ root_of v) (sym (ap (of_bits binary32) e) ∙ of_bits-to_bits binary32 x f)
-
-pub root_infinite : (x : Float) → T (fits binary32 x) → to_bits binary32 x ≡ 0x7F80_0000 → Is x ≡ root_of x
-unfolding root_of of_bits
-root_infinite x f h = at-pattern x f 0x7F80_0000 h refl
-
-pub root_zero : (x : Float) → T (fits binary32 x) → to_bits binary32 x % 0x8000_0000 ≡ 0 → Is x ≡ root_of x
-unfolding root_of of_bits
-root_zero x f h = by_sign (leb 0x8000_0000 (to_bits binary32 x)) refl
-  where
-    by_sign : (s : Bool) → leb 0x8000_0000 (to_bits binary32 x) ≡ s → Is x ≡ root_of x
-    by_sign true e =
-        at-pattern x f 0x8000_0000 (omega (arith, leb-true 0x8000_0000 (to_bits binary32 x) e, to_bits-lt binary32 x f)) refl
-    by_sign false e = at-pattern x f 0 (let u = leb-false 0x8000_0000 (to_bits binary32 x) e in omega arith) refl
-
--- ---- what is left is a positive number, and its pattern is in the range
-
-zero_bits : (s : Bool) (n : ℕ) → n ≡ 0 → (cond s 0x8000_0000 0 + (size n - 24) * 0x80_0000 + n / 2 ^ (size n - 24)) % 0x8000_0000 ≡ 0
-unfolding size
-zero_bits true n e = rw e refl
-zero_bits false n e = rw e refl
-
-zero-units : (e : ℤ) → 0 * up e * 2 ^ 149 / down e ≡ 0
-zero-units e = ap (λ (x : ℕ). x * 2 ^ 149 / down e) (zero-mul (up e)) ∙ zero-div (down e)
-
-left-positive : (x : Float) → ne x x ≡ false → lt x (of_bits binary32 0) ≡ false → (to_bits binary32 x ≡ 0x7F80_0000 → ⊥)
-    → (to_bits binary32 x % 0x8000_0000 ≡ 0 → ⊥) → T (positive x)
-unfolding ne lt of_bits to_bits
-left-positive nan a b c d = absurd (true≢false a)
-left-positive (inf true) a b c d = absurd (true≢false b)
-left-positive (inf false) a b c d = absurd (c refl)
-left-positive (fin s zero e) a b c d = absurd (d (zero_bits s (0 * up e * 2 ^ 149 / down e) (zero-units e)))
-left-positive (fin true (suc m) e) a b c d =
-    let l = ltb-false 0 (suc m * up e * 1 + 0 * 1 * down e) b in absurd (omega (arith, mul-pos (zero-lt-suc m) (up_pos e)))
-left-positive (fin false (suc m) e) a b c d = lt→ltb 0 (suc m) (zero-lt-suc m)
+-- ---- a positive number's pattern is in the range
 
 odd_sign : (d q k l : ℕ) → T (positive (odd d true q k l)) → ⊥
 unfolding odd
@@ -114,13 +82,33 @@ not-zero : (b : ℕ) → T (positive (of_bits binary32 b)) → b ≡ 0 → ⊥
 unfolding of_bits
 not-zero b p e = subst (λ (x : ℕ). T (positive (of_bits binary32 x))) e p
 
-pub in_range : (x : Float) → T (fits binary32 x) → ne x x ≡ false → lt x (of_bits binary32 0) ≡ false
-    → (to_bits binary32 x ≡ 0x7F80_0000 → ⊥) → (to_bits binary32 x % 0x8000_0000 ≡ 0 → ⊥)
-    → (0 < to_bits binary32 x) × (to_bits binary32 x < 0x7F80_0000)
-in_range x f a b c d =
+in_range : (x : Float) → T (fits binary32 x) → T (positive x) → (0 < to_bits binary32 x) × (to_bits binary32 x < 0x7F80_0000)
+in_range x f g =
     let n = to_bits binary32 x in
-    let p : T (positive (of_bits binary32 n)) = rw (of_bits-to_bits binary32 x f) (left-positive x a b c d) in
+    let p : T (positive (of_bits binary32 n)) = rw (of_bits-to_bits binary32 x f) g in
     (above n (not-zero n p), lt_of_not-le (not-above n p (to_bits-lt binary32 x f)))
   where
     above : (n : ℕ) → (n ≡ 0 → ⊥) → 0 < n
     above n h = omega arith
+
+positive_given : (x : Float) → T (fits binary32 x) → T (positive x) → Some (sqrt binary32 x) ≡ root_of x
+positive_given x f g =
+    let b = in_range x f g in
+    subst (λ (v : Float). Some (sqrt binary32 v) ≡ root_of v) (of_bits-to_bits binary32 x f) (sqrt_is (to_bits binary32 x) b.0 b.1)
+
+-- a zero is written in one way
+zero_power : (e : ℤ) → T (eqb (up e * down e) 1) → e ≡ pos 0
+zero_power (pos zero) t = refl
+zero_power (pos (suc k)) t = absurd (omega (arith, eqb→eq (2 ^ suc k * 1) 1 t, pow-succ' 2 k))
+zero_power (negsuc k) t = absurd (omega (arith, eqb→eq (1 * 2 ^ suc k) 1 t, pow-succ' 2 k))
+
+-- of what has an owner the format holds the value
+pub root_given : (x : Float) → fits binary32 x ≡ true → le (of_bits binary32 0) x ≡ true → Some (sqrt binary32 x) ≡ root_of x
+unfolding root_of sqrt le of_bits fits
+root_given nan f h = absurd (true≢false (sym h))
+root_given (inf true) f h = absurd (true≢false (sym h))
+root_given (inf false) f h = refl
+root_given (fin s zero e) f h = ap (λ (e : ℤ). Some (fin s 0 e)) (sym (zero_power e (subst T (sym f) tt)))
+root_given (fin true (suc m) e) f h =
+    absurd (not_negative _ _ (zero-mul (down e)) (omega (arith, mul-pos (zero-lt-suc m) (up_pos e))) h)
+root_given (fin false (suc m) e) f h = positive_given (fin false (suc m) e) (subst T (sym f) tt) (lt→ltb 0 (suc m) (zero-lt-suc m))

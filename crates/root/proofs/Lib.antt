@@ -4,4 +4,5 @@ pub mod RoundingLaws
 pub mod PatternLaws
 pub mod CaseLaws
 pub mod NearestLaws
-pub mod CallLaws
+pub mod SqrtLaws
+pub mod SubnormalLaws

@@ -11,7 +11,7 @@ use borrow.Author.Tests.{ltb-true, ltb-false, leb-true, leb-false}
 use Rattle.root.specs.Isqrt.{isqrt}
 use Rattle.root.specs.Root.{root_of}
 use Rattle.root.specs.Parts.{units_of}
-use Rattle.root.specs.declared.Root.TheVariants.{Is}
+use Rattle.std.specs.Prelude.{Some}
 use Rattle.root.proofs.SquareLaws.{Floor, root_lt, isqrt_is}
 use Rattle.root.proofs.FieldLaws.{Whole, some-whole, units-normal}
 use Rattle.root.proofs.PatternLaws.{q_low, q_high, rounded-down, rounded-up}
@@ -111,13 +111,13 @@ module _ (b n k q : ℕ) (w : Whole b n k) (f : Floor n q) (low : 2 ^ 23 ≤ q) 
       }
 
 -- the root of each positive number is the nearest one
-pub root_is_nearest : (b : ℕ) → 0 < b → b < 0x7F80_0000 → (p : ℕ) × (root_of (of_bits binary32 b) ≡ Is (of_bits binary32 p)) × Nearest b p
+pub root_is_nearest : (b : ℕ) → 0 < b → b < 0x7F80_0000 → (p : ℕ) × (root_of (of_bits binary32 b) ≡ Some (of_bits binary32 p)) × Nearest b p
 root_is_nearest b B H =
     let s = some-whole b B H in
     go s.0 s.1 (isqrt s.0) s.2 (isqrt_is s.0) (leb s.0 (isqrt s.0 * isqrt s.0 + isqrt s.0)) refl
   where
     go : (n k q : ℕ) → Whole b n k → Floor n q → (t : Bool) → leb n (q * q + q) ≡ t
-        → (p : ℕ) × (root_of (of_bits binary32 b) ≡ Is (of_bits binary32 p)) × Nearest b p
+        → (p : ℕ) × (root_of (of_bits binary32 b) ≡ Some (of_bits binary32 p)) × Nearest b p
     go n k q w f true t =
         let h = leb-true _ _ t in
         (k * 0x80_0000 + q, rounded-down b n k q B H w f h, down b n k q w f (q_low b n k q B H w f) (q_high b n k q B H w f) h)

@@ -1,4 +1,3 @@
 pub mod RoundLaws
 pub mod ScalarLaws
 pub mod TableLaws
-pub mod CallLaws

@@ -1,50 +1,29 @@
 -- Laws of specs/Code and specs/Table that the workers' proofs cite. Assumes nothing.
-use Prim.Native.Nat.{ℕ, ◌+◌, ◌*◌, ◌/◌, ◌%◌, ◌^◌, ◌≤◌, ◌<◌}
-use mathlib.Core.Bool.{true, false, ◌||◌}
+use Prim.Native.Nat.{ℕ, zero, suc, ◌+◌, ◌-◌, ◌*◌, ◌/◌, ◌%◌, ◌^◌, ◌≤◌, ◌<◌}
+use mathlib.Core.Bool.{true}
 use mathlib.Core.List.{List}
-use mathlib.Core.Path.{◌≡◌, refl, sym, ap, ◌∙◌}
+use mathlib.Core.Path.{◌≡◌, refl, sym, ap, ap₂, ◌∙◌}
 use native.Mathlib.Omega.{arith}
-use native.Mathlib.Nat.{mul_comm}
-use lib.ListN.{length, get_or}
-use lib.Seq.{sets}
+use native.Mathlib.Nat.{mul_comm, add_assoc, le_of_eq}
+use lib.ListN.{length, get_or, take, drop, length-drop}
+use lib.Seq.{sets, get_or-drop, take_all}
 use lib.Pow.{pow_pos}
 use lib.Ieee.{Float, to_bits, binary32}
-use Rattle.words.specs.Bytes.{f32_at, floats_of}
+use Rattle.words.specs.Bytes.{num_at, f32_at, floats_of}
 use Rattle.words.specs.Digits.{join}
-use Rattle.words.specs.Floats.{missing}
+use Rattle.words.specs.Floats.{◌⊕◌, plus_zero, added_to}
 use Rattle.words.specs.Limits.{most_scalar_dims}
 use Rattle.words.specs.Lists.{joined}
-use Rattle.words.specs.Refusals.{bad_length}
 use Rattle.words.proofs.ByteLaws.{sets_append}
 use Rattle.words.proofs.DigitLaws.{join_ext}
+use Rattle.words.proofs.FloatLaws.{added_on}
 use Rattle.words.proofs.ListLaws.{length-tabulate, tabulate-at, joined_more, length-joined, filled}
 use Rattle.words.proofs.WordsLaws.{length-words_of}
-use Rattle.words.proofs.RefusalLaws.{neither, length_is}
-use Rattle.digits.specs.Digits.{is_width, levels, top, per_byte, packed_size, packed_byte, packed}
-use Rattle.digits.proofs.DigitLaws.{by_width, digit_from, full_byte, last_byte}
+use Rattle.digits.specs.Digits.{is_width, levels, top, per_byte, packed_size, digit_at, packed_byte, packed}
+use Rattle.digits.proofs.DigitLaws.{by_width, full_byte, last_byte}
 use Rattle.scalar.specs.Code.{quotient, dimension_code, codes_of, scalar_code}
 use Rattle.scalar.specs.Table.{term_at}
-use Rattle.scalar.specs.Parts.{FineVectors}
-use Rattle.scalar.specs.Calls.{bad_vectors, any_missing}
 use Rattle.scalar.proofs.RoundLaws.{code_le}
-
--- ---- buffers that no test refuses
-
-pub long_vectors : (dims : ℕ) (v lo hi : List ℕ) → bad_vectors dims v lo hi ≡ false
-    → (length v ≡ 4 * dims) × (length lo ≡ 4 * dims) × (length hi ≡ 4 * dims)
-unfolding bad_vectors
-long_vectors dims v lo hi h =
-    let p = neither (bad_length v (4 * dims) || bad_length lo (4 * dims)) (bad_length hi (4 * dims)) h in
-    let q = neither (bad_length v (4 * dims)) (bad_length lo (4 * dims)) p.0 in
-    (length_is v (4 * dims) q.0, length_is lo (4 * dims) q.1, length_is hi (4 * dims) p.1)
-
-pub fine : (dims : ℕ) (v lo hi : List ℕ) → bad_vectors dims v lo hi ≡ false → any_missing dims v lo hi ≡ false → FineVectors dims v lo hi
-unfolding any_missing
-fine dims v lo hi h k =
-    let l = long_vectors dims v lo hi h in
-    let p = neither (missing dims v || missing dims lo) (missing dims hi) k in
-    let q = neither (missing dims v) (missing dims lo) p.0 in
-    record { vector_long = l.0; lo_long = l.1; hi_long = l.2; vector_there = q.0; lo_there = q.1; hi_there = p.1 }
 
 -- ---- codes
 
@@ -63,13 +42,13 @@ module _ (w dims : ℕ) (v lo hi : List ℕ) where
   listed at n h = join_ext w n _ _ (λ j l. sym (tabulate-at dims (dimension_code (top w) v lo hi) (at + j) (omega arith)))
 
   -- byte k of the code, whole and at the end
-  pub whole_codes : (k at per t : ℕ) → at ≡ k * per_byte w → per ≡ per_byte w → t ≡ top w → at + per ≤ dims
-      → join w per (λ j. dimension_code t v lo hi (at + j)) ≡ packed_byte w (codes_of (top w) dims v lo hi) k
-  whole_codes k at per t e f g h = rw g (listed at per h ∙ full_byte w k at per (codes_of (top w) dims v lo hi) e f)
+  pub whole_codes : (k : ℕ) → k * per_byte w + per_byte w ≤ dims
+      → join w (per_byte w) (λ j. dimension_code (top w) v lo hi (k * per_byte w + j)) ≡ packed_byte w (codes_of (top w) dims v lo hi) k
+  whole_codes k h = listed (k * per_byte w) (per_byte w) h ∙ full_byte w k (codes_of (top w) dims v lo hi)
 
-  pub last_codes : (k at n t : ℕ) → at ≡ k * per_byte w → n ≤ per_byte w → t ≡ top w → at + n ≡ dims
-      → join w n (λ j. dimension_code t v lo hi (at + j)) ≡ packed_byte w (codes_of (top w) dims v lo hi) k
-  last_codes k at n t e l g h = rw g (listed at n (omega arith) ∙ last_byte w k at n (codes_of (top w) dims v lo hi) e l (h ∙ sym count_codes))
+  pub last_codes : (k n : ℕ) → n ≤ per_byte w → k * per_byte w + n ≡ dims
+      → join w n (λ j. dimension_code (top w) v lo hi (k * per_byte w + j)) ≡ packed_byte w (codes_of (top w) dims v lo hi) k
+  last_codes k n l h = listed (k * per_byte w) n (omega arith) ∙ last_byte w k n (codes_of (top w) dims v lo hi) l (h ∙ sym count_codes)
 
   pub scalar_filled : (s : List ℕ) → length s ≡ packed_size w dims
       → ((k : ℕ) → k < packed_size w dims → get_or s k 0 ≡ packed_byte w (codes_of (top w) dims v lo hi) k) → s ≡ scalar_code w dims v lo hi
@@ -91,29 +70,69 @@ piece_more m g h l at k p e =
     let f : p ≡ at + length (joined k g) = e ∙ ap (λ (z : ℕ). at + z) (sym (length-joined m k g (λ i q. h i))) in
     rw f (sets_append l at (joined k g) (g k)) ∙ ap (sets l at) (sym (joined_more k g))
 
--- ---- the loop that adds the entries at the digits
+-- ---- the loop that adds the entries at the digits: k groups of eight dimensions are done
 
--- digit j from a dimension that begins a byte
-module _ (w at j : ℕ) (h : is_width w ≡ true) (whole : at * w % 8 ≡ 0) where
-  same_byte : at * w / 8 + j * w / 8 ≡ (at + j) * w / 8
-  same_byte = let e : at * w ≡ 8 * (at * w / 8) = omega arith in omega arith
+num_drop : (n a : ℕ) (s : List ℕ) (i : ℕ) → num_at n (drop a s) i ≡ num_at n s (a + i)
+unfolding num_at
+num_drop zero a s i = refl
+num_drop (suc n) a s i = rw (get_or-drop a s i 0, num_drop n a s (i + 1), add_assoc) refl
 
-  same_bit : j * w % 8 ≡ (at + j) * w % 8
-  same_bit = let e : at * w ≡ 8 * (at * w / 8) = omega arith in omega arith
+f32_drop : (a m i : ℕ) (s : List ℕ) → a ≡ 4 * m → f32_at (drop a s) i ≡ f32_at s (m + i)
+unfolding f32_at
+f32_drop a m i s e = let p : a + 4 * i ≡ 4 * (m + i) = omega arith in rw (num_drop 4 a s (4 * i), p) refl
 
-  pub byte_within : (dims : ℕ) → at + j < dims → at * w / 8 + j * w / 8 < packed_size w dims
-  byte_within dims l =
-      rw same_byte
-      (by_width (λ w. (at + j) * w / 8 < packed_size w dims) (omega arith) (omega arith) (omega arith) (omega arith) w h)
+digit_drop : (w k j : ℕ) (code : List ℕ) → is_width w ≡ true → digit_at w (drop (k * w) code) j ≡ digit_at w code (k * 8 + j)
+unfolding digit_at
+digit_drop w k j code h =
+    let a : k * w + j / per_byte w ≡ (k * 8 + j) / per_byte w =
+    by_width (λ w. k * w + j / per_byte w ≡ (k * 8 + j) / per_byte w) (omega arith) (omega arith) (omega arith) (omega arith) w h in
+    let b : j % per_byte w ≡ (k * 8 + j) % per_byte w =
+    by_width (λ w. j % per_byte w ≡ (k * 8 + j) % per_byte w) (omega arith) (omega arith) (omega arith) (omega arith) w h in
+    rw (get_or-drop (k * w) code (j / per_byte w) 0, a, b) refl
 
-  pub term_is : (o row c n : ℕ) (table code : List ℕ) → o ≡ j * w → row ≡ (at + j) * levels w → n ≡ levels w
-      → c ≡ get_or code (at * w / 8 + o / 8) 0 / 2 ^ (o % 8) % n → f32_at table (row + c) ≡ term_at w table code (at + j)
-  unfolding term_at
-  term_is o row c n table code eo er en ec = rw (ec, er, en, eo, same_byte, same_bit, digit_from w code (at + j) h) refl
+-- the part of a buffer from a on
+rest : (a : ℕ) (s : List ℕ) → take (length s - a) (drop a s) ≡ drop a s
+rest a s = take_all (length s - a) (drop a s) (le_of_eq (length-drop a s))
+
+pub rest_long : (a n : ℕ) (s : List ℕ) → n ≤ length s - a → n ≤ length (take (length s - a) (drop a s))
+rest_long a n s h = rw (rest a s, length-drop a s) h
+
+term_drop : (w k a j : ℕ) (table code : List ℕ) → is_width w ≡ true → a ≡ k * (4 * (8 * levels w))
+    → term_at w (drop a table) (drop (k * w) code) j ≡ term_at w table code (k * 8 + j)
+unfolding term_at
+term_drop w k a j table code h e =
+    let p : k * 8 * levels w + (j * levels w + digit_at w code (k * 8 + j)) ≡ (k * 8 + j) * levels w + digit_at w code (k * 8 + j) = omega arith in
+    rw (digit_drop w k j code h, f32_drop a (k * 8 * levels w) (j * levels w + digit_at w code (k * 8 + j)) table (omega arith), p) refl
+
+added_ext : (s : Float) (n : ℕ) (f g : ℕ → Float) → ((j : ℕ) → f j ≡ g j) → added_to s n f ≡ added_to s n g
+unfolding added_to
+added_ext s zero f g h = refl
+added_ext s (suc n) f g h = ap₂ (λ (x y : Float). x ⊕ y) (added_ext s n f g h) (h n)
+
+-- the terms of the next n dimensions, read in what is left of the table and of the code
+pub added_part : (w k n a : ℕ) (s : Float) (table code : List ℕ) → is_width w ≡ true → a ≡ k * (4 * (8 * levels w))
+    → s ≡ added_to plus_zero (k * 8) (term_at w table code)
+    → added_to s n (term_at w (take (length table - a) (drop a table)) (take (length code - k * w) (drop (k * w) code)))
+    ≡ added_to plus_zero (k * 8 + n) (term_at w table code)
+added_part w k n a s table code h e f =
+    rw (rest a table, rest (k * w) code, f)
+    (added_ext _ n _ _ (λ j. term_drop w k a j table code h e) ∙ added_on plus_zero (k * 8) n (term_at w table code))
 
 -- what the loop counts fits
-pub bits_fit : (w i : ℕ) → is_width w ≡ true → i ≤ most_scalar_dims → i * w + w ≤ 0x8_0000
-bits_fit w i h l = by_width (λ w. i * w + w ≤ 0x8_0000) (omega arith) (omega arith) (omega arith) (omega arith) w h
-
 pub rows_fit : (w i : ℕ) → is_width w ≡ true → i ≤ most_scalar_dims → i * levels w + levels w ≤ 0x100_0000
 rows_fit w i h l = by_width (λ w. i * levels w + levels w ≤ 0x100_0000) (omega arith) (omega arith) (omega arith) (omega arith) w h
+
+-- n dimensions after k whole groups: where they begin in the table and in the code, and what is left there
+module _ (w k n dims a : ℕ) (table code : List ℕ) (h : is_width w ≡ true) (l : k * 8 + n ≤ dims) (e : a ≡ k * (4 * (8 * levels w)))
+    (t : length table ≡ 4 * (dims * levels w)) (c : length code ≡ packed_size w dims) where
+  pub table_left : (a ≤ length table) × (4 * (n * levels w) ≤ length table - a)
+  table_left =
+      rw (e, t)
+      (by_width (λ w. (k * (4 * (8 * levels w)) ≤ 4 * (dims * levels w)) × (4 * (n * levels w) ≤ 4 * (dims * levels w) - k * (4 * (8 * levels w))))
+      (omega arith, omega arith) (omega arith, omega arith) (omega arith, omega arith) (omega arith, omega arith) w h)
+
+  pub code_left : (k * w ≤ length code) × (packed_size w n ≤ length code - k * w)
+  code_left =
+      rw c
+      (by_width (λ w. (k * w ≤ packed_size w dims) × (packed_size w n ≤ packed_size w dims - k * w)) (omega arith, omega arith) (omega arith, omega arith)
+      (omega arith, omega arith) (omega arith, omega arith) w h)

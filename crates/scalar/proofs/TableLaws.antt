@@ -10,8 +10,8 @@ use lib.Seq.{take_all}
 use lib.Ieee.{Float, of_bits, fits, binary32}
 use lib.Ieee.Fits.{mul-fits}
 use Rattle.words.specs.Bytes.{num_at, f32_at, floats_of}
-use Rattle.words.specs.declared.Metric.{Metric}
-use Rattle.words.specs.declared.Metric.TheVariants.{L2, Dot}
+use Rattle.words.specs.declared.metric.Metric.{Metric}
+use Rattle.words.specs.declared.metric.Metric.TheVariants.{L2, Dot}
 use Rattle.words.proofs.ByteLaws.{num_part_from}
 use Rattle.words.proofs.ListLaws.{joined_at}
 use Rattle.words.proofs.WordsLaws.{floats_back}

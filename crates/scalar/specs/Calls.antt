@@ -26,7 +26,7 @@ above_max dims lo hi = any_below dims (λ i. lt (f32_at hi i) (f32_at lo i))
 
 -- BAD_LENGTH, MISSING, BAD_VALUE of a call over vectors: `other` is that the buffer that is written isn't of its length, `form` that
 -- the metric is none
-unfoldable pub vectors_number : ℕ → List ℕ → List ℕ → List ℕ → Bool → Bool → ℕ
+abbrev pub vectors_number : ℕ → List ℕ → List ℕ → List ℕ → Bool → Bool → ℕ
 vectors_number dims vector lo hi other form =
     cond (bad_vectors dims vector lo hi || other) 3
     (cond (any_missing dims vector lo hi) 4
@@ -59,7 +59,7 @@ table_answer metric dims bits vector lo hi out =
 -- ---- the distance of a code by a table
 
 -- BAD_DIMS, BAD_WIDTH, BAD_LENGTH, BAD_VALUE of the metric, and NO_ESTIMATE: the table may hold any bits, so the sum may be a NaN
-unfoldable pub distance_number : ℕ → ℕ → ℕ → List ℕ → List ℕ → List ℕ → ℕ
+abbrev pub distance_number : ℕ → ℕ → ℕ → List ℕ → List ℕ → List ℕ → ℕ
 distance_number metric dims bits table code out =
     cond (bad_dims most_scalar_dims dims) 1
     (cond (not (is_width bits)) 2

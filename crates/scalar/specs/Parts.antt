@@ -10,3 +10,10 @@ pub record FineVectors (dims : ℕ) (vector lo hi : List ℕ) : Type 0 where
   pub vector_there : missing dims vector ≡ false
   pub lo_there : missing dims lo ≡ false
   pub hi_there : missing dims hi ≡ false
+
+-- a vector with the min and the max of each dimension
+pub record Ranged : Type 0 where
+  pub dims : ℕ
+  pub vector : List ℕ
+  pub lo : List ℕ
+  pub hi : List ℕ

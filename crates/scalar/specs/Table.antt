@@ -5,8 +5,8 @@ use Rattle.std.specs.Float.{binary32}
 use Rattle.words.specs.Bytes.{f32_at, floats_of}
 use Rattle.words.specs.Floats.{◌⊕◌, ◌⊖◌, ◌⊗◌, plus_zero, added_to}
 use Rattle.words.specs.Lists.{joined}
-use Rattle.words.specs.declared.Metric.{Metric}
-use Rattle.words.specs.declared.Metric.TheVariants.{L2, Dot}
+use Rattle.words.specs.declared.metric.Metric.{Metric}
+use Rattle.words.specs.declared.metric.Metric.TheVariants.{L2, Dot}
 use Rattle.digits.specs.Digits.{levels, top, digit_at}
 use Rattle.scalar.specs.Code.{del_of}
 

@@ -2,35 +2,32 @@
 #![tactic(auto)]
 
 ghost use Rattle.std.specs.Prelude.{◌≡◌};
+ghost use Rattle.words.specs.Refusals.{status};
 ghost use Rattle.scalar.specs.Calls.{encode_answer};
 
-use digits::{Found, Width};
+use digits::Width;
+use digits::parts::packed_size;
+use parts::vectors::Vectors;
+use words::{Dims, MOST_SCALAR_DIMS, Refusal, has_length};
 
 pub mod parts;
 
 // The code of a vector.
-pub fn scalar_encode(
+#[tactic(auto, unfolding(crate::specs::Calls::encode_answer, crate::specs::Calls::encode_number, words::specs::Refusals::answer, words::specs::Refusals::after))]
+pub fn scalar_encode<'a>(
     dims: u32,
     bits: u32,
-    vector: &[u8],
-    min: &[u8],
-    max: &[u8],
+    vector: &'a [u8],
+    min: &'a [u8],
+    max: &'a [u8],
     code: &mut [u8],
-) -> u32
-    ensures { (result, code.new) ≡ encode_answer dims bits vector.now min.now max.now code.old }
+) -> Result<(), Refusal>
+    ensures { (status result, code.new) ≡ encode_answer dims bits vector.now min.now max.now code.old }
 {
-    if words::bad_dims(dims, words::MOST_SCALAR_DIMS) {
-        return words::BAD_DIMS;
-    }
-    let Found::Width(w) = Width::of_bits(bits) else {
-        return words::BAD_WIDTH;
-    };
-    let n = dims as usize;
-    let size = digits::parts::packed_size(w, n);
-    let r = parts::tests::refusal(n, vector, min, max, code.len() != size, false);
-    if r != words::ACCEPTED {
-        return r;
-    }
-    parts::code::encode(w, n, vector, min, max, code);
-    words::ACCEPTED
+    let dims = Dims::<MOST_SCALAR_DIMS>::try_from(dims)?;
+    let w = Width::try_from(bits)?;
+    has_length(code, packed_size(w, dims))?;
+    let v = Vectors::judge(dims, vector, min, max)?;
+    parts::code::encode(w, v, code);
+    Ok(())
 }

@@ -1,3 +1,3 @@
 // The workers, for callers that have judged their inputs.
 pub mod code;
-pub mod tests;
+pub mod vectors;

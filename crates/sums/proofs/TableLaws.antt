@@ -1,6 +1,6 @@
 -- Module 6's nibble table: the sum of the entries that a record's nibbles pick is the plain sum over its bits. Assumes nothing.
 use mathlib.Core.Path.{◌≡◌, sym, ap, ap₂, ◌∙◌}
-use Prim.Native.Nat.{ℕ, ◌+◌, ◌*◌, ◌/◌, ◌%◌, ◌^◌, ◌<◌, ◌≤◌}
+use Prim.Native.Nat.{ℕ, ◌+◌, ◌*◌, ◌/◌, ◌%◌, ◌^◌, ◌<◌}
 use mathlib.Core.List.{List}
 use native.Mathlib.Omega.{arith}
 use native.Mathlib.Nat.{zero-add, mod-lt}
@@ -8,14 +8,14 @@ use lib.Dec.{lit<}
 use lib.ListN.{length, get_or, drop}
 use lib.Seq.{get_or-drop}
 use Rattle.words.specs.Digits.{bit}
-use Rattle.words.proofs.SumLaws.{sum_ext, sum_le, sum-none, sum_more}
+use Rattle.words.proofs.SumLaws.{sum_ext, sum-none, sum_more}
 use Rattle.words.proofs.ListLaws.{length-tabulate, tabulate-at}
 use Rattle.block.specs.Block.{block_groups, lane_nibble, lane_bit}
 use Rattle.block.proofs.LaneLaws.{lane_bit-lt}
 use Rattle.sums.specs.Sums.{plain_sum, nibble_bit, groups_nibble, group_sum, table_of, table_count, QueryCodes}
 use Rattle.sums.specs.Parts.{Table, groups_sum, Scanned, LaneSums}
 use Rattle.sums.proofs.PlainLaws.{plain_ext, plain_le}
-use Rattle.sums.proofs.GroupLaws.{group_four, groups_plain}
+use Rattle.sums.proofs.GroupLaws.{groups_plain}
 
 pub groups_nibble-lt : (groups : List ℕ) (k g : ℕ) → groups_nibble groups k g < 16
 unfolding groups_nibble
@@ -28,16 +28,6 @@ groups_of_block block k g =
     let e : 512 + (16 * g + k % 16) ≡ 512 + 16 * g + k % 16 = omega arith in
     ap (λ (x : ℕ). x / 16 ^ (k / 16) % 16) (get_or-drop 512 block (16 * g + k % 16) 0 ∙ ap (λ (x : ℕ). get_or block x 0) e)
 
--- ---- the entries
-
--- what the code makes of the group's four codes is the entry at 16g + m
-pub entry_is : (qs : List ℕ) (g m : ℕ) → m < 16 → {a b c d r : ℕ} → a ≡ get_or qs (4 * g) 0 → b ≡ get_or qs (4 * g + 1) 0 → c ≡ get_or qs (4 * g + 2) 0
-    → d ≡ get_or qs (4 * g + 3) 0 → r ≡ a * bit m 0 + b * bit m 1 + c * bit m 2 + d * bit m 3 → r ≡ group_sum qs ((16 * g + m) / 16) ((16 * g + m) % 16)
-entry_is qs g m l ea eb ec ed e =
-    let high : g ≡ (16 * g + m) / 16 = omega arith in
-    let low : m ≡ (16 * g + m) % 16 = omega arith in
-    cc (group_four qs g m) ∙ ap₂ (group_sum qs) high low
-
 -- ---- the count
 
 pub count_none : (t : List ℕ) (m : ℕ → ℕ) → table_count t m 0 ≡ 0
@@ -47,10 +37,6 @@ count_none t m = sum-none (λ g. get_or t (16 * g + m g) 0)
 pub count_more : (t : List ℕ) (m : ℕ → ℕ) (n : ℕ) → table_count t m (n + 1) ≡ table_count t m n + get_or t (16 * n + m n) 0
 unfolding table_count
 count_more t m n = sum_more n (λ g. get_or t (16 * g + m g) 0)
-
-pub count_le : (t : List ℕ) (m : ℕ → ℕ) (n : ℕ) → ((i : ℕ) → get_or t i 0 < 256) → table_count t m n ≤ 255 * n
-unfolding table_count
-count_le t m n bytes = sum_le 255 n (λ g. get_or t (16 * g + m g) 0) (λ g. omega (arith, bytes (16 * g + m g)))
 
 -- of a query's table
 pub count_plain : (qs t : List ℕ) (m : ℕ → ℕ) → Table qs t → ((g : ℕ) → m g < 16) → table_count t m (block_groups (length qs)) ≡ plain_sum qs (nibble_bit m)

@@ -2,24 +2,24 @@
 #![tactic(auto)]
 
 ghost use Rattle.std.specs.Prelude.{◌≡◌};
+ghost use Rattle.words.specs.Refusals.{status};
 ghost use Rattle.sums.specs.Calls.{query_sum_answer};
 
-use parts::query::{refusal, total};
-use words::{ACCEPTED, BAD_DIMS, MOST_DIMS, bad_dims, put_number};
+pub use codes::QueryCodes;
+use words::{Dims, MOST_DIMS, Refusal, has_length, put_number};
 
+mod codes;
 pub mod parts;
 
 // The sum of all query codes.
-pub fn query_sum(dims: u32, query: &[u8], out: &mut [u8]) -> u32
-    ensures { (result, out.new) ≡ query_sum_answer dims query.now out.old }
+#[tactic(auto, unfolding(crate::specs::Calls::query_sum_answer, crate::specs::Calls::sum_number, words::specs::Refusals::answer, words::specs::Refusals::after))]
+pub fn query_sum(dims: u32, query: &[u8], out: &mut [u8]) -> Result<(), Refusal>
+    ensures { (status result, out.new) ≡ query_sum_answer dims query.now out.old }
 {
-    if bad_dims(dims, MOST_DIMS) {
-        return BAD_DIMS;
-    }
-    let r = refusal(dims, query, out.len() != 4);
-    if r != ACCEPTED {
-        return r;
-    }
-    put_number(out, total(query));
-    ACCEPTED
+    let dims = Dims::<MOST_DIMS>::try_from(dims)?;
+    has_length(query, dims.get())?;
+    has_length(out, 4)?;
+    let query = QueryCodes::judged(dims, query)?;
+    put_number(out, query.total());
+    Ok(())
 }

@@ -1,3 +1,2 @@
 // The workers, for callers that have judged their inputs.
-pub mod query;
 pub mod table;

@@ -2,43 +2,41 @@
 #![tactic(auto)]
 
 ghost use Rattle.std.specs.Prelude.{◌≡◌};
+ghost use Rattle.words.specs.Refusals.{status};
 ghost use Rattle.scalar.specs.Calls.{table_answer, distance_answer};
 
-use digits::{Found, Width};
-use scalar::parts::tests::refusal;
+use digits::Width;
+use digits::parts::packed_size;
+use parts::table::table_size;
+use scalar::parts::vectors::Vectors;
+use words::{Dims, MOST_SCALAR_DIMS, Metric, Refusal, has_length};
 
 pub mod parts;
 
 // The table of a query: what a code adds to its distance in each dimension.
-pub fn scalar_table(
+#[tactic(auto, unfolding(scalar::specs::Calls::table_answer, scalar::specs::Calls::table_number, words::specs::Refusals::answer, words::specs::Refusals::after))]
+pub fn scalar_table<'a>(
     metric: u32,
     dims: u32,
     bits: u32,
-    vector: &[u8],
-    min: &[u8],
-    max: &[u8],
+    vector: &'a [u8],
+    min: &'a [u8],
+    max: &'a [u8],
     table: &mut [u8],
-) -> u32
-    ensures { (result, table.new) ≡ table_answer metric dims bits vector.now min.now max.now table.old }
+) -> Result<(), Refusal>
+    ensures { (status result, table.new) ≡ table_answer metric dims bits vector.now min.now max.now table.old }
 {
-    if words::bad_dims(dims, words::MOST_SCALAR_DIMS) {
-        return words::BAD_DIMS;
-    }
-    let Found::Width(w) = Width::of_bits(bits) else {
-        return words::BAD_WIDTH;
-    };
-    let n = dims as usize;
-    let size = parts::table::table_size(w, n);
-    let form = words::bad_form(metric);
-    let r = refusal(n, vector, min, max, table.len() != size, form);
-    if r != words::ACCEPTED {
-        return r;
-    }
-    parts::table::fill(words::metric_of(metric), w, n, vector, min, max, table);
-    words::ACCEPTED
+    let dims = Dims::<MOST_SCALAR_DIMS>::try_from(dims)?;
+    let w = Width::try_from(bits)?;
+    has_length(table, table_size(w, dims))?;
+    let v = Vectors::judge(dims, vector, min, max)?;
+    let m = Metric::try_from(metric)?;
+    parts::table::fill(m, w, v, table);
+    Ok(())
 }
 
 // The distance of a code by a query's table.
+#[tactic(auto, unfolding(scalar::specs::Calls::distance_answer, words::specs::Refusals::answer, words::specs::Refusals::after))]
 pub fn scalar_distance(
     metric: u32,
     dims: u32,
@@ -46,32 +44,19 @@ pub fn scalar_distance(
     table: &[u8],
     code: &[u8],
     out: &mut [u8],
-) -> u32
-    ensures { (result, out.new) ≡ distance_answer metric dims bits table.now code.now out.old }
+) -> Result<(), Refusal>
+    ensures { (status result, out.new) ≡ distance_answer metric dims bits table.now code.now out.old }
 {
-    if words::bad_dims(dims, words::MOST_SCALAR_DIMS) {
-        return words::BAD_DIMS;
+    let dims = Dims::<MOST_SCALAR_DIMS>::try_from(dims)?;
+    let w = Width::try_from(bits)?;
+    has_length(table, table_size(w, dims))?;
+    has_length(code, packed_size(w, dims))?;
+    has_length(out, 4)?;
+    let m = Metric::try_from(metric)?;
+    let s = parts::distance::sum(w, dims, table, code);
+    if s.is_nan() {
+        return Err(Refusal::NoEstimate);
     }
-    let Found::Width(w) = Width::of_bits(bits) else {
-        return words::BAD_WIDTH;
-    };
-    let n = dims as usize;
-    if table.len() != parts::table::table_size(w, n) {
-        return words::BAD_LENGTH;
-    }
-    if code.len() != digits::parts::packed_size(w, n) {
-        return words::BAD_LENGTH;
-    }
-    if out.len() != 4 {
-        return words::BAD_LENGTH;
-    }
-    if words::bad_form(metric) {
-        return words::BAD_VALUE;
-    }
-    let s = parts::distance::sum(w, n, table, code);
-    if s != s {
-        return words::NO_ESTIMATE;
-    }
-    words::put_float(out, parts::distance::distance(words::metric_of(metric), s));
-    words::ACCEPTED
+    words::put_float(out, parts::distance::distance(m, s));
+    Ok(())
 }

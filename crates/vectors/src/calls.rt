@@ -1,222 +1,246 @@
-// The calls of include/lintelkite.h, in the header's order.
-ghost use Rattle.std.specs.Prelude.{◌≤◌, length};
+// The calls of include/lintelkite.h.
+use words::Refusal;
 
-use crate::line;
-use crate::line::{float, number};
-use std::io;
-
-pub const COUNT: usize = 23;
-
-// How many numbers and buffers a call takes, and how many of the buffers it writes: these are the last ones.
-#[derive(Clone, Copy)]
-pub struct Shape {
-    pub numbers: u8,
-    pub buffers: u8,
-    pub written: u8,
+#[derive(Clone, Copy, Debug, PartialEq, Eq, PartialOrd, Ord)]
+pub enum Call {
+    DigitsSize,
+    CodeSize,
+    BlockSize,
+    DigitsPack,
+    DigitsRead,
+    ScalarEncode,
+    ScalarTable,
+    ScalarDistance,
+    Root,
+    CodeEncode,
+    CodeBit,
+    BlockPack,
+    BlockLane,
+    QuerySum,
+    CodeSum,
+    BlockSums,
+    CodeRough,
+    CodeLowerBound,
+    BlockRough,
+    BlockLowerBounds,
+    Walk,
+    RerankNext,
+    RerankSupply,
 }
 
-fn takes(numbers: u8, buffers: u8, written: u8) -> Shape {
-    Shape {
-        numbers: numbers,
-        buffers: buffers,
-        written: written,
+// The calls by their names in the header, without lk_, in its order.
+pub const CALLS: [(&str, Call); 23] = [
+    ("digits_size", Call::DigitsSize),
+    ("code_size", Call::CodeSize),
+    ("block_size", Call::BlockSize),
+    ("digits_pack", Call::DigitsPack),
+    ("digits_read", Call::DigitsRead),
+    ("scalar_encode", Call::ScalarEncode),
+    ("scalar_table", Call::ScalarTable),
+    ("scalar_distance", Call::ScalarDistance),
+    ("root", Call::Root),
+    ("code_encode", Call::CodeEncode),
+    ("code_bit", Call::CodeBit),
+    ("block_pack", Call::BlockPack),
+    ("block_lane", Call::BlockLane),
+    ("query_sum", Call::QuerySum),
+    ("code_sum", Call::CodeSum),
+    ("block_sums", Call::BlockSums),
+    ("code_rough", Call::CodeRough),
+    ("code_lower_bound", Call::CodeLowerBound),
+    ("block_rough", Call::BlockRough),
+    ("block_lower_bounds", Call::BlockLowerBounds),
+    ("walk", Call::Walk),
+    ("rerank_next", Call::RerankNext),
+    ("rerank_supply", Call::RerankSupply),
+];
+
+impl Call {
+    // The call of that name.
+    pub fn named(name: &[u8]) -> Option<Call> {
+        CALLS
+            .into_iter()
+            .find(|(its, _)| its.as_bytes() == name)
+            .map(|(_, call)| call)
     }
-}
 
-pub fn shape_of(which: usize) -> Shape {
-    match which {
-        0 => takes(2, 1, 1),
-        1 | 2 | 8 => takes(1, 1, 1),
-        3 | 10 | 12 => takes(2, 2, 1),
-        4 => takes(3, 2, 1),
-        5 => takes(2, 4, 1),
-        6 => takes(3, 4, 1),
-        7 => takes(3, 3, 1),
-        9 | 14 | 15 => takes(1, 3, 1),
-        11 | 13 => takes(1, 2, 1),
-        16 | 17 | 18 | 19 => takes(5, 3, 1),
-        20 => takes(9, 6, 4),
-        21 => takes(0, 4, 2),
-        22 => takes(2, 4, 3),
-        _ => takes(0, 0, 0),
-    }
-}
-
-// Where name k starts, and the end where there is none. A space stands after each name.
-fn start_of(names: &[u8], k: usize) -> usize
-    ensures { result ≤ length names.now }
-{
-    let mut left = k;
-    let mut i = 0usize;
-    while i < names.len() {
-        if left == 0 {
-            return i;
+    // How many of its buffers it writes: these are the last ones.
+    pub fn written(self) -> usize {
+        match self {
+            Call::Walk => 4,
+            Call::RerankNext => 2,
+            Call::RerankSupply => 3,
+            _ => 1,
         }
-        if names[i] == b' ' {
-            left -= 1;
+    }
+
+    // What it returns for these numbers and buffers; none where it doesn't take as many. By groups: one match over all of the calls was
+    // beyond the check's limits.
+    pub fn make(self, numbers: &[u32], buffers: &mut [Vec<u8>]) -> Option<Result<(), Refusal>> {
+        match self {
+            Call::DigitsSize | Call::CodeSize | Call::BlockSize => self.size(numbers, buffers),
+            Call::DigitsPack | Call::DigitsRead | Call::Root => self.digits_or_root(
+                numbers, buffers,
+            ),
+            Call::ScalarEncode | Call::ScalarTable | Call::ScalarDistance => {
+                self.scalar(numbers, buffers)
+            }
+            Call::CodeEncode | Call::CodeBit => self.code(numbers, buffers),
+            Call::BlockPack | Call::BlockLane => self.block(numbers, buffers),
+            Call::QuerySum | Call::CodeSum | Call::BlockSums => self.sum(numbers, buffers),
+            Call::CodeRough | Call::CodeLowerBound | Call::BlockRough | Call::BlockLowerBounds =>
+                self.estimate(numbers, buffers),
+            Call::Walk | Call::RerankNext | Call::RerankSupply => self.rank(numbers, buffers),
         }
-        i += 1;
     }
-    i
-}
 
-fn name_at(names: &[u8], k: usize) -> &[u8] {
-    let from = start_of(names, k);
-    line::name(&names[from..])
-}
-
-// The number of a call by its name, and COUNT where there is no such call.
-pub fn which(names: &[u8], name: &[u8]) -> usize {
-    let mut k = 0usize;
-    while k < COUNT {
-        if check::same(name_at(names, k), name) {
-            return k;
+    fn size(self, numbers: &[u32], buffers: &mut [Vec<u8>]) -> Option<Result<(), Refusal>> {
+        match (self, numbers, buffers) {
+            (Call::DigitsSize, [dims, bits], [out]) => {
+                Some(lintelkite::lk_digits_size(*dims, *bits, out))
+            }
+            (Call::CodeSize, [dims], [out]) => Some(lintelkite::lk_code_size(*dims, out)),
+            (Call::BlockSize, [dims], [out]) => Some(lintelkite::lk_block_size(*dims, out)),
+            _ => None,
         }
-        k += 1;
     }
-    k
+
+    fn digits_or_root(
+        self,
+        numbers: &[u32],
+        buffers: &mut [Vec<u8>],
+    ) -> Option<Result<(), Refusal>> {
+        match (self, numbers, buffers) {
+            (Call::DigitsPack, [dims, bits], [codes, packed]) => {
+                Some(lintelkite::lk_digits_pack(*dims, *bits, codes, packed))
+            }
+            (Call::DigitsRead, [dims, bits, index], [packed, out]) => Some(
+                lintelkite::lk_digits_read(*dims, *bits, packed, *index, out),
+            ),
+            (Call::Root, [x], [out]) => Some(lintelkite::lk_root(float(*x), out)),
+            _ => None,
+        }
+    }
+
+    fn scalar(self, numbers: &[u32], buffers: &mut [Vec<u8>]) -> Option<Result<(), Refusal>> {
+        match (self, numbers, buffers) {
+            (Call::ScalarEncode, [dims, bits], [vector, min, max, code]) => Some(
+                lintelkite::lk_scalar_encode(*dims, *bits, vector, min, max, code),
+            ),
+            (Call::ScalarTable, [metric, dims, bits], [vector, min, max, table]) => Some(
+                lintelkite::lk_scalar_table(*metric, *dims, *bits, vector, min, max, table),
+            ),
+            (Call::ScalarDistance, [metric, dims, bits], [table, code, out]) => Some(
+                lintelkite::lk_scalar_distance(*metric, *dims, *bits, table, code, out),
+            ),
+            _ => None,
+        }
+    }
+
+    fn code(self, numbers: &[u32], buffers: &mut [Vec<u8>]) -> Option<Result<(), Refusal>> {
+        match (self, numbers, buffers) {
+            (Call::CodeEncode, [dims], [factors, vector, code]) => {
+                Some(lintelkite::lk_code_encode(*dims, factors, vector, code))
+            }
+            (Call::CodeBit, [dims, index], [code, out]) => {
+                Some(lintelkite::lk_code_bit(*dims, code, *index, out))
+            }
+            _ => None,
+        }
+    }
+
+    fn block(self, numbers: &[u32], buffers: &mut [Vec<u8>]) -> Option<Result<(), Refusal>> {
+        match (self, numbers, buffers) {
+            (Call::BlockPack, [dims], [codes, block]) => {
+                Some(lintelkite::lk_block_pack(*dims, codes, block))
+            }
+            (Call::BlockLane, [dims, lane], [block, code]) => {
+                Some(lintelkite::lk_block_lane(*dims, block, *lane, code))
+            }
+            _ => None,
+        }
+    }
+
+    fn sum(self, numbers: &[u32], buffers: &mut [Vec<u8>]) -> Option<Result<(), Refusal>> {
+        match (self, numbers, buffers) {
+            (Call::QuerySum, [dims], [query, out]) => {
+                Some(lintelkite::lk_query_sum(*dims, query, out))
+            }
+            (Call::CodeSum, [dims], [query, code, out]) => {
+                Some(lintelkite::lk_code_sum(*dims, query, code, out))
+            }
+            (Call::BlockSums, [dims], [query, block, out]) => {
+                Some(lintelkite::lk_block_sums(*dims, query, block, out))
+            }
+            _ => None,
+        }
+    }
+
+    fn estimate(self, numbers: &[u32], buffers: &mut [Vec<u8>]) -> Option<Result<(), Refusal>> {
+        let ([metric, dims, d, b, k], [query, of, out]) = (numbers, buffers) else {
+            return None;
+        };
+        let (metric, dims) = (*metric, *dims);
+        let (d, b, k) = (float(*d), float(*b), float(*k));
+        match self {
+            Call::CodeRough => Some(lintelkite::lk_code_rough(
+                metric, dims, d, b, k, query, of, out,
+            )),
+            Call::CodeLowerBound => Some(lintelkite::lk_code_lower_bound(
+                metric, dims, d, b, k, query, of, out,
+            )),
+            Call::BlockRough => Some(lintelkite::lk_block_rough(
+                metric, dims, d, b, k, query, of, out,
+            )),
+            Call::BlockLowerBounds => Some(lintelkite::lk_block_lower_bounds(
+                metric, dims, d, b, k, query, of, out,
+            )),
+            _ => None,
+        }
+    }
+
+    fn rank(self, numbers: &[u32], buffers: &mut [Vec<u8>]) -> Option<Result<(), Refusal>> {
+        match (self, numbers, buffers) {
+            (
+                Call::Walk,
+                [metric, layout, dims, d, b, k, n, start, end],
+                [query, records, ids, bounds, marks, count],
+            ) => Some(lintelkite::lk_walk(
+                *metric,
+                *layout,
+                *dims,
+                float(*d),
+                float(*b),
+                float(*k),
+                query,
+                records,
+                *n,
+                *start,
+                *end,
+                ids,
+                bounds,
+                marks,
+                count,
+            )),
+            (Call::RerankNext, [], [estimates, distances, marks, out]) => {
+                Some(lintelkite::lk_rerank_next(estimates, distances, marks, out))
+            }
+            (Call::RerankSupply, [place, distance], [estimates, distances, marks, out]) => {
+                Some(lintelkite::lk_rerank_supply(
+                    estimates,
+                    distances,
+                    marks,
+                    *place,
+                    float(*distance),
+                    out,
+                ))
+            }
+            _ => None,
+        }
+    }
 }
 
-pub fn print_name(rt: &impl Print, names: &[u8], which: usize) -> io::Result<()> {
-    rt.write_all(name_at(names, which))
-}
-
-fn call_digits(which: usize, line: &[u8], b0: &mut [u8], b1: &mut [u8]) -> u32 {
-    let x = number(line, 0);
-    let y = number(line, 1);
-    match which {
-        0 => lintelkite::lk_digits_size(x, y, b0),
-        1 => lintelkite::lk_code_size(x, b0),
-        2 => lintelkite::lk_block_size(x, b0),
-        3 => lintelkite::lk_digits_pack(x, y, b0, b1),
-        _ => lintelkite::lk_digits_read(x, y, b0, number(line, 2), b1),
-    }
-}
-
-fn call_scalar(
-    which: usize,
-    line: &[u8],
-    b0: &mut [u8],
-    b1: &[u8],
-    b2: &mut [u8],
-    b3: &mut [u8],
-) -> u32 {
-    let x = number(line, 0);
-    let y = number(line, 1);
-    match which {
-        5 => lintelkite::lk_scalar_encode(x, y, b0, b1, b2, b3),
-        6 => lintelkite::lk_scalar_table(x, y, number(line, 2), b0, b1, b2, b3),
-        7 => lintelkite::lk_scalar_distance(x, y, number(line, 2), b0, b1, b2),
-        _ => lintelkite::lk_root(float(line, 0), b0),
-    }
-}
-
-fn call_codes(which: usize, line: &[u8], b0: &[u8], b1: &mut [u8], b2: &mut [u8]) -> u32 {
-    match which {
-        9 => lintelkite::lk_code_encode(number(line, 0), b0, b1, b2),
-        10 => lintelkite::lk_code_bit(number(line, 0), b0, number(line, 1), b1),
-        11 => lintelkite::lk_block_pack(number(line, 0), b0, b1),
-        _ => lintelkite::lk_block_lane(number(line, 0), b0, number(line, 1), b1),
-    }
-}
-
-fn call_sums(which: usize, line: &[u8], b0: &[u8], b1: &mut [u8], b2: &mut [u8]) -> u32 {
-    match which {
-        13 => lintelkite::lk_query_sum(number(line, 0), b0, b1),
-        14 => lintelkite::lk_code_sum(number(line, 0), b0, b1, b2),
-        _ => lintelkite::lk_block_sums(number(line, 0), b0, b1, b2),
-    }
-}
-
-fn call_estimates(which: usize, line: &[u8], b0: &[u8], b1: &[u8], b2: &mut [u8]) -> u32 {
-    let metric = number(line, 0);
-    let dims = number(line, 1);
-    let d = float(line, 2);
-    let b = float(line, 3);
-    let k = float(line, 4);
-    match which {
-        16 => lintelkite::lk_code_rough(metric, dims, d, b, k, b0, b1, b2),
-        17 => lintelkite::lk_code_lower_bound(metric, dims, d, b, k, b0, b1, b2),
-        18 => lintelkite::lk_block_rough(metric, dims, d, b, k, b0, b1, b2),
-        _ => lintelkite::lk_block_lower_bounds(metric, dims, d, b, k, b0, b1, b2),
-    }
-}
-
-fn call_walk(
-    line: &[u8],
-    b0: &[u8],
-    b1: &[u8],
-    b2: &mut [u8],
-    b3: &mut [u8],
-    b4: &mut [u8],
-    b5: &mut [u8],
-) -> u32 {
-    lintelkite::lk_walk(
-        number(line, 0),
-        number(line, 1),
-        number(line, 2),
-        float(line, 3),
-        float(line, 4),
-        float(line, 5),
-        b0,
-        b1,
-        number(line, 6),
-        number(line, 7),
-        number(line, 8),
-        b2,
-        b3,
-        b4,
-        b5,
-    )
-}
-
-fn call_rerank(
-    which: usize,
-    line: &[u8],
-    b0: &[u8],
-    b1: &mut [u8],
-    b2: &mut [u8],
-    b3: &mut [u8],
-) -> u32 {
-    if which == 21 {
-        return lintelkite::lk_rerank_next(b0, b1, b2, b3);
-    }
-    lintelkite::lk_rerank_supply(b0, b1, b2, number(line, 0), float(line, 1), b3)
-}
-
-// The calls that take at most three buffers, after those of digits and scalars.
-fn call_middle(which: usize, line: &[u8], b0: &[u8], b1: &mut [u8], b2: &mut [u8]) -> u32 {
-    if which < 13 {
-        return call_codes(which, line, b0, b1, b2);
-    }
-    if which < 16 {
-        return call_sums(which, line, b0, b1, b2);
-    }
-    call_estimates(which, line, b0, b1, b2)
-}
-
-// The call, on the line's numbers and these buffers: what it returns.
-pub fn call(
-    which: usize,
-    line: &[u8],
-    b0: &mut [u8],
-    b1: &mut [u8],
-    b2: &mut [u8],
-    b3: &mut [u8],
-    b4: &mut [u8],
-    b5: &mut [u8],
-) -> u32 {
-    if which < 5 {
-        return call_digits(which, line, b0, b1);
-    }
-    if which < 9 {
-        return call_scalar(which, line, b0, b1, b2, b3);
-    }
-    if which < 20 {
-        return call_middle(which, line, b0, b1, b2);
-    }
-    if which == 20 {
-        return call_walk(line, b0, b1, b2, b3, b4, b5);
-    }
-    call_rerank(which, line, b0, b1, b2, b3)
+// The float of these bits. Those of any NaN are read as the one NaN.
+fn float(bits: u32) -> f32 {
+    words::f32_at(&bits.to_le_bytes(), 0)
 }

@@ -8,9 +8,10 @@
 // held before.
 #![tactic(auto)]
 
-ghost use Rattle.std.specs.Prelude.{◌≡◌, ◌≤◌, length};
-ghost use Rattle.std.specs.Io.{ReadsAtMost};
-
+use calls::{CALLS, Call};
+use line::Wrong;
+use std::alloc::Global;
+use std::collections::BTreeMap;
 use std::fs::File;
 use std::io;
 use std::io::Read;
@@ -19,155 +20,48 @@ use std::rt::{Env, Files};
 mod calls;
 mod line;
 
-const MOST_TEXT: usize = 262144;
+const MOST_TEXT: usize = 262_144;
 
 // The bytes that a path may have, with one to spare.
 const MOST_PATH: usize = 4096;
 
-// One more, up to the largest.
-fn more(n: u64) -> u64 {
-    if n < 0xFFFF_FFFF_FFFF_FFFF { n + 1 } else { n }
+// How many lines have a call, and how many of them agree.
+#[derive(Clone, Copy, Default)]
+struct Tally {
+    seen: u64,
+    agreed: u64,
 }
 
-fn count_at(counts: &mut [u64], i: usize) {
-    if i < counts.len() {
-        counts[i] = more(counts[i]);
-    }
-}
-
-// Where the line from `from` on ends: at a line feed, or at the text's end.
-fn line_end(text: &[u8], from: usize) -> usize
-    requires { from ≤ length text.now }
-    ensures { (from ≤ result) × (result ≤ length text.now) }
-{
-    let mut to = from;
-    while to < text.len() {
-        if text[to] == b'\n' {
-            return to;
-        }
-        to += 1;
-    }
-    to
-}
-
-fn say_wrong(rt: &impl Print, verdict: u8, at: u64) -> io::Result<()> {
-    print!(rt; "line {at}")?;
-    match verdict {
-        line::NUMBER => println!(rt; ": the number differs"),
-        line::BYTES => println!(rt; ": the bytes differ"),
-        line::TOO_LONG => println!(rt; ": a buffer of more than 40,000 bytes"),
-        _ => println!(rt; ": no such call, or parameters that it doesn't have"),
+impl Tally {
+    fn count(&mut self, agrees: bool) {
+        self.seen = self.seen.saturating_add(1);
+        self.agreed = self.agreed.saturating_add(u64::from(agrees));
     }
 }
 
 // One line: its call is counted, and counted as agreeing if it does.
-fn one(
-    rt: &impl Print,
-    names: &[u8],
-    text: &[u8],
-    at: u64,
-    seen: &mut [u64],
-    agreed: &mut [u64],
-) -> io::Result<()> {
-    if text.len() == 0 {
-        return Ok(());
-    }
-    if text[0] == b'#' {
-        return Ok(());
-    }
-    let which = calls::which(names, line::name(text));
-    let verdict = line::replay(which, text);
-    count_at(seen, which);
-    if verdict == line::AGREES {
-        count_at(agreed, which);
-        Ok(())
-    } else {
-        say_wrong(rt, verdict, at)
-    }
+fn replay(alloc: Global, line: &[u8], tallies: &mut BTreeMap<Call, Tally>) -> Result<(), Wrong> {
+    let call = Call::named(line::name(line)).ok_or(Wrong::Form)?;
+    let answer = line::replay(alloc, call, line);
+    tallies.entry(call)?.or_default().count(answer.is_ok());
+    answer
 }
 
-fn all(
-    rt: &impl Print,
-    names: &[u8],
-    text: &[u8],
-    seen: &mut [u64],
-    agreed: &mut [u64],
-) -> io::Result<()> {
-    let mut from = 0usize;
-    let mut at: u64 = 1;
-    while from < text.len() {
-        let to = line_end(text, from);
-        one(rt, names, &text[from..to], at, seen, agreed)?;
-        from = to + 1;
-        at = more(at);
-    }
-    Ok(())
-}
-
-fn print_tally(
-    rt: &impl Print,
-    names: &[u8],
-    which: usize,
-    seen: &[u64],
-    agreed: &[u64],
-) -> io::Result<()> {
-    if which < seen.len() {
-        if which < agreed.len() {
-            calls::print_name(rt, names, which)?;
-            println!(rt; ": {} of {} agree", agreed[which], seen[which])?;
+fn replay_all(rt: &(impl Print + AllocGlobal), text: &[u8]) -> io::Result<()> {
+    let mut tallies = BTreeMap::new(rt.alloc());
+    for (at, line) in (1u64..).zip(text.split(|c| *c == b'\n')) {
+        if line.is_empty() || line.starts_with(b"#") {
+            continue;
+        }
+        if let Err(wrong) = replay(rt.alloc(), line, &mut tallies) {
+            println!(rt; "line {at}: {wrong}")?;
         }
     }
-    Ok(())
-}
-
-fn print_tallies(rt: &impl Print, names: &[u8], seen: &[u64], agreed: &[u64]) -> io::Result<()> {
-    for which in 0usize..calls::COUNT {
-        print_tally(rt, names, which, seen, agreed)?;
+    for (name, call) in CALLS {
+        let Tally { seen, agreed } = tallies.get(&call).copied().unwrap_or_default();
+        println!(rt; "{name}: {agreed} of {seen} agree")?;
     }
     Ok(())
-}
-
-// Room for the list. The contract gives the length alone, so that no proof writes out the zeros.
-fn room() -> [u8; MOST_TEXT]
-    ensures { 262144 ≡ length result }
-{
-    [0; MOST_TEXT]
-}
-
-// Reads until the text is full or the input ends: how many bytes it put at the start of the text.
-fn read_full(file: &mut impl Read, text: &mut [u8]) -> io::Result<usize>
-    ensures { ReadsAtMost result text.new }
-{
-    let mut done = 0usize;
-    while done < text.len() {
-        let n = file.read(&mut text[done..])?;
-        if n == 0 {
-            break;
-        }
-        done += n;
-    }
-    Ok(done)
-}
-
-fn read_and_replay(rt: &impl Print, file: &mut impl Read, names: &[u8]) -> io::Result<()> {
-    let mut text = room();
-    let n = read_full(file, &mut text)?;
-    if n == MOST_TEXT {
-        return println!(rt; "the list is too long");
-    }
-    let mut seen = [0u64; calls::COUNT];
-    let mut agreed = [0u64; calls::COUNT];
-    all(rt, names, &text[..n], &mut seen, &mut agreed)?;
-    print_tallies(rt, names, &seen, &agreed)
-}
-
-// The names of the calls in the order of their numbers, with a space after each.
-fn with_names(rt: &impl Print, file: &mut impl Read) -> io::Result<()> {
-    read_and_replay(
-        rt,
-        file,
-        b"digits_size code_size block_size digits_pack digits_read scalar_encode scalar_table scalar_distance root code_encode code_bit block_pack block_lane query_sum code_sum block_sums code_rough code_lower_bound block_rough block_lower_bounds walk rerank_next rerank_supply ",
-    )
 }
 
 // The file of that path, if it is text and the file can be opened.
@@ -181,8 +75,13 @@ fn main(rt: HostRuntime) -> io::Result<()> {
     let Ok(n) = rt.arg(1, &mut path) else {
         return println!(rt; "usage: vectors LIST");
     };
-    let Some(mut file) = opened(&rt, &path[..n]) else {
+    let Some(file) = opened(&rt, &path[..n]) else {
         return println!(rt; "the list can't be opened");
     };
-    with_names(&rt, &mut file)
+    let mut text = Vec::new(rt.alloc());
+    file.take(MOST_TEXT as u64).read_to_end(&mut text)?;
+    if text.len() == MOST_TEXT {
+        return println!(rt; "the list is too long");
+    }
+    replay_all(&rt, &text)
 }

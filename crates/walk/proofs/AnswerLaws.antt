@@ -1,6 +1,6 @@
--- What a walk past its first tests knows, and its answer at each return. Assumes nothing.
+-- A walk's answer after each of its tests. Assumes nothing.
 use mathlib.Core.Path.{◌≡◌, refl, sym, ap, ◌∙◌}
-use mathlib.Core.Bool.{Bool, true, false, not, ◌&&◌, ◌||◌}
+use mathlib.Core.Bool.{Bool, true, false, ◌||◌}
 use Prim.Native.Nat.{ℕ, ◌+◌, ◌-◌, ◌*◌, ◌≤◌, ◌<◌}
 use mathlib.Core.List.{List, ◌++◌}
 use native.Mathlib.Omega.{arith}
@@ -9,19 +9,16 @@ use lib.ListN.{length, drop, replicate}
 use lib.Ieee.{is_nan}
 use borrow.Author.Tests.{ltb-false, le-ltb}
 use Rattle.words.specs.Bytes.{bytes_of, words_of}
-use Rattle.words.specs.Limits.{most_records, most_places}
 use Rattle.words.specs.Lists.{any_below}
 use Rattle.words.specs.Metrics.{metric_of}
-use Rattle.words.specs.Refusals.{after, bad_length, bad_lists, bad_form}
+use Rattle.words.specs.Refusals.{after, bad_form}
 use Rattle.words.proofs.ListLaws.{any_none}
-use Rattle.words.proofs.RefusalLaws.{length_is, lists_are, no_row, neither, after_refused, else_first, else_second}
+use Rattle.words.proofs.RefusalLaws.{no_row, after_refused, else_first, else_second}
 use Rattle.words.proofs.WordsLaws.{words_zero}
-use Rattle.sums.specs.Sums.{QueryCodes}
 use Rattle.estimate.specs.declared.Query.{Query}
 use Rattle.estimate.specs.Calls.{query_number}
-use Rattle.estimate.proofs.CallLaws.{accepted}
 use Rattle.walk.proofs.WalkLaws.{range_inside}
-use Rattle.walk.specs.Walk.{layout_of, records_size, bad_records, bad_outs, bad_lengths, out_of_range, range_number, bound_of, bound_words, walk_number, walk_answer}
+use Rattle.walk.specs.Walk.{layout_of, bad_outs, bad_lengths, out_of_range, range_number, bound_of, bound_words, walk_number, walk_answer}
 
 -- ---- the range
 
@@ -49,42 +46,6 @@ module _ (metric layout dims : ℕ) (v : Query) (qs rs : List ℕ) (n start end 
   -- the refusals 1 to 5
   unfoldable pub first_number : ℕ
   first_number = query_number dims other_lengths v qs (bad_form metric || bad_form layout)
-
-  -- as the code's tests give them
-  pub judged : (r : ℕ) (tested : Bool) → tested ≡ outs
-      → r ≡ query_number dims (bad_lengths layout dims n (length rs) tested) v qs (bad_form metric || bad_form layout) → r ≡ first_number
-  unfolding first_number
-  judged r tested el e = e ∙ rw el refl
-
-  -- what is known where there is none
-  pub record Known : Type 0 where
-    pub codes : QueryCodes qs
-    pub few : n ≤ most_records
-    pub sized : length rs ≡ records_size (layout_of layout) (length qs) n
-    pub places : length marks ≤ most_places
-    pub ids_are : length ids ≡ 4 * length marks
-    pub bounds_are : length bounds ≡ 4 * length marks
-    pub count_is : length count ≡ 4
-
-  pub known : first_number ≡ 0 → Known
-  unfolding first_number bad_lengths bad_outs bad_records bad_length
-  known e =
-      let a = accepted dims other_lengths v qs (bad_form metric || bad_form layout) e in
-      let l = neither (ltb most_records n || bad_records layout dims n (length rs)) outs a.others in
-      let r = neither (ltb most_records n) (bad_records layout dims n (length rs)) l.0 in
-      let o = neither (bad_lists (length ids) (length bounds) (length marks)) (bad_length count 4) l.1 in
-      let p = lists_are (length ids) (length bounds) (length marks) o.0 in
-      let f = neither (bad_form metric) (bad_form layout) a.formed in
-      let s = ap (λ (x : Bool). not x && bad_length rs (records_size (layout_of layout) dims n)) (sym f.1) ∙ r.1 in
-      record {
-        codes = a.codes;
-        few = ltb-false _ _ r.0;
-        sized = length_is rs _ s ∙ ap (λ (x : ℕ). records_size (layout_of layout) x n) (sym a.size);
-        places = p.0;
-        ids_are = p.1;
-        bounds_are = p.2;
-        count_is = length_is count 4 o.1;
-      }
 
   -- ---- the number
 

@@ -11,7 +11,7 @@ use lib.Ieee.{is_nan, to_bits, binary32}
 use Rattle.words.specs.Lists.{any_below, record_of}
 use Rattle.words.specs.Metrics.{metric_of}
 use Rattle.words.specs.Refusals.{bad_form}
-use Rattle.words.specs.declared.Metric.{Metric}
+use Rattle.words.specs.declared.metric.Metric.{Metric}
 use Rattle.words.proofs.ListLaws.{joined_at, length-joined, length-tabulate, any_ext}
 use borrow.Author.Tests.{eq-eqb}
 use Rattle.words.proofs.WordsLaws.{words_ext}
@@ -23,7 +23,7 @@ use Rattle.estimate.specs.declared.Query.{Query}
 use Rattle.estimate.specs.Record.{code_estimate, lane_estimate}
 use Rattle.estimate.proofs.CallLaws.{accepted}
 use Rattle.estimate.proofs.LaneLaws.{cleared_same, lane_is_code}
-use Rattle.walk.specs.declared.Layout.TheVariants.{Single, Blocks}
+use Rattle.walk.specs.declared.layout.Layout.TheVariants.{Single, Blocks}
 use Rattle.walk.specs.Walk.{layout_of, records_size, blocks_of, bad_records, bad_lengths, range_number, bound_of, bound_words, walk_answer}
 use Rattle.walk.specs.Packed.{packed_blocks}
 use Rattle.walk.proofs.WalkLaws.{record_end, part_of_front}

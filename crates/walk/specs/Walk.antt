@@ -6,15 +6,15 @@ use Rattle.words.specs.Limits.{most_records}
 use Rattle.words.specs.Lists.{any_below, record_of}
 use Rattle.words.specs.Metrics.{metric_of}
 use Rattle.words.specs.Refusals.{after, or_else, bad_lists, bad_form}
-use Rattle.words.specs.declared.Metric.{Metric}
+use Rattle.words.specs.declared.metric.Metric.{Metric}
 use Rattle.code.specs.Code.{code_size}
 use Rattle.block.specs.Block.{block_size}
 use Rattle.estimate.specs.declared.Asked.TheVariants.{LowerBound}
 use Rattle.estimate.specs.declared.Query.{Query}
 use Rattle.estimate.specs.Record.{code_estimate, lane_estimate}
 use Rattle.estimate.specs.Calls.{query_number}
-use Rattle.walk.specs.declared.Layout.{Layout}
-use Rattle.walk.specs.declared.Layout.TheVariants.{Single, Blocks}
+use Rattle.walk.specs.declared.layout.Layout.{Layout}
+use Rattle.walk.specs.declared.layout.Layout.TheVariants.{Single, Blocks}
 
 -- the layout of 1 or 2: the call refuses every other number first
 unfoldable pub layout_of : ℕ → Layout

@@ -1,14 +1,15 @@
 -- Laws of numbers in bytes: a number of a part, a number in two halves, bytes stored one after the other. Assumes nothing.
-use Prim.Native.Nat.{ℕ, zero, suc, ◌+◌, ◌-◌, ◌*◌, ◌/◌, ◌%◌, ◌^◌, ◌<◌, ◌≤◌}
+use Prim.Native.Nat.{ℕ, zero, suc, ◌+◌, ◌-◌, ◌*◌, ◌/◌, ◌^◌, ◌<◌, ◌≤◌}
 use mathlib.Core.Path.{◌≡◌, refl, sym, ap, ◌∙◌}
 use native.Mathlib.Omega.{arith}
-use native.Mathlib.Nat.{add_assoc, add-zero, add-suc, suc-add, le_of_lt, le_trans, le-add_right}
-use native.Mathlib.Numerals.{add-one}
+use native.Mathlib.Nat.{add_assoc, add-zero, add-suc, suc-add, le_trans, le-add_right}
 use mathlib.Core.List.{List, [], ◌∷◌, ◌++◌, append-nil, append_assoc}
-use lib.ListN.{length, get_or, take, drop, set, length-append, drop_of_length-le}
-use lib.Seq.{sets, sets-eq, take-suc, take_at, length-take-le, get_or-take, get_or-drop}
+use lib.ListN.{length, take, drop, set, length-append, drop_of_length-le}
+use lib.Seq.{sets, sets-eq, take_at, length-take-le, get_or-take, get_or-drop}
 use borrow.Rule.Slice.PartMut.{put_mid, Post-is}
 use lib.Ieee.{Float, to_bits, binary32}
+use Rattle.std.specs.Int.{from_le_bytes, to_le_bytes}
+use Rattle.std.proofs.Common.{w32, w64}
 use Rattle.words.specs.Bytes.{num_at, bytes_of, float_bytes}
 
 -- a number of a part of the bytes
@@ -26,23 +27,28 @@ pub num_8 : (s : List ℕ) (at : ℕ) → num_at 8 s at ≡ num_at 4 s at + num_
 unfolding num_at
 num_8 s at = simp add_assoc (omega arith)
 
-pub bytes_8 : (x : ℕ) → bytes_of 4 (x % 0x1_0000_0000) ++ bytes_of 4 (x / 0x1_0000_0000) ≡ bytes_of 8 x
+-- std's number of four bytes
+pub le_number : (a b c d : ℕ) → from_le_bytes w32 (a ∷ b ∷ c ∷ d ∷ []) ≡ a + 256 * (b + 256 * (c + 256 * (d + 256 * 0)))
+le_number a b c d = omega arith
+
+-- std's bytes of a number
+pub le_bytes : (x : ℕ) → to_le_bytes w32 x ≡ bytes_of 4 x
 unfolding bytes_of
-bytes_8 x =
-    let h : ℕ = x / 0x1_0000_0000 in
-    let r : ℕ = x % 0x1_0000_0000 in
-    let a1 : x / 256 ≡ h * 0x100_0000 + r / 256 = omega arith in
-    let a2 : x / 256 / 256 ≡ h * 0x1_0000 + r / 256 / 256 = omega arith in
-    let a3 : x / 256 / 256 / 256 ≡ h * 0x100 + r / 256 / 256 / 256 = omega arith in
-    let e0 : r % 256 ≡ x % 256 = low (x) (h * 0x100_0000) (r) (omega arith) in
-    let e1 : r / 256 % 256 ≡ x / 256 % 256 = low (x / 256) (h * 0x1_0000) (r / 256) (omega arith) in
-    let e2 : r / 256 / 256 % 256 ≡ x / 256 / 256 % 256 = low (x / 256 / 256) (h * 0x100) (r / 256 / 256) (omega arith) in
-    let e3 : r / 256 / 256 / 256 % 256 ≡ x / 256 / 256 / 256 % 256 = low (x / 256 / 256 / 256) (h) (r / 256 / 256 / 256) (omega arith) in
-    let e4 : h ≡ x / 256 / 256 / 256 / 256 = omega arith in
-    rw (e0, e1, e2, e3, e4)
-  where
-    low : (y q r : ℕ) → y ≡ q * 256 + r → r % 256 ≡ y % 256
-    low y q r e = omega arith
+le_bytes x =
+    let e2 : x / 0x1_0000 ≡ x / 256 / 256 = omega arith in
+    let e3 : x / 0x100_0000 ≡ x / 256 / 256 / 256 = omega arith in
+    rw (e2, e3) refl
+
+pub le_bytes_8 : (x : ℕ) → to_le_bytes w64 x ≡ bytes_of 8 x
+unfolding bytes_of
+le_bytes_8 x =
+    let e2 : x / 0x1_0000 ≡ x / 256 / 256 = omega arith in
+    let e3 : x / 0x100_0000 ≡ x / 256 / 256 / 256 = omega arith in
+    let e4 : x / 0x1_0000_0000 ≡ x / 256 / 256 / 256 / 256 = omega arith in
+    let e5 : x / 0x100_0000_0000 ≡ x / 256 / 256 / 256 / 256 / 256 = omega arith in
+    let e6 : x / 0x1_0000_0000_0000 ≡ x / 256 / 256 / 256 / 256 / 256 / 256 = omega arith in
+    let e7 : x / 0x100_0000_0000_0000 ≡ x / 256 / 256 / 256 / 256 / 256 / 256 / 256 = omega arith in
+    rw (e2, e3, e4, e5, e6, e7) refl
 
 -- what was written reads back
 pub num_bytes : (x : ℕ) → x < 2 ^ 32 → num_at 4 (bytes_of 4 x) 0 ≡ x
@@ -55,12 +61,6 @@ num_bytes x h = omega arith
 pub sets_snoc : (l : List ℕ) (i : ℕ) (vs : List ℕ) (a : ℕ) → sets l i (vs ++ (a ∷ [])) ≡ set (sets l i vs) (i + length vs) a
 sets_snoc l i [] a = rw add-zero refl
 sets_snoc l i (v ∷ vs) a = sets_snoc (set l i v) (suc i) vs a ∙ rw (suc-add, add-suc) refl
-
--- a turn of the loop that stores s from place at on
-pub sets-take-suc : (l : List ℕ) (at : ℕ) (s : List ℕ) (i : ℕ) → i < length s
-    → set (sets l at (take i s)) (at + i) (get_or s i 0) ≡ sets l at (take (i + 1) s)
-sets-take-suc l at s i h =
-    rw (add-one, take-suc s i 0 h, sets_snoc, length-take-le i s (le_of_lt h)) refl
 
 -- what then stands before the place after the last byte
 pub take-sets : (l : List ℕ) (at : ℕ) (vs : List ℕ) → at + length vs ≤ length l → take (at + length vs) (sets l at vs) ≡ take at l ++ vs

@@ -8,9 +8,8 @@ use native.Mathlib.Numerals.{add-one}
 use native.Mathlib.Nat.{add-zero, add-suc, lt_of_not-le, not-le_of_lt, lt_of_lt_of_le, mul-div_cancel, zero-add}
 use lib.Dec.{T, eqb, leb}
 use lib.Pow.{pow_mono}
-use lib.Ieee.{Float, nan, inf, fin, up, down, size, is_nan, nan_bits, odd, of_fields, of_bits, to_bits, div, ne, binary32}
-use lib.Ieee.Bits.{nan_bits_is, nan_bits_above, is_false}
-use lib.Ieee.Compare.{differs_from_itself}
+use lib.Ieee.{Float, nan, inf, fin, up, down, size, is_nan, nan_bits, odd, of_fields, of_bits, to_bits, binary32}
+use lib.Ieee.Bits.{nan_bits_is, nan_bits_above}
 use lib.Ieee.Digits.{size-lt, size-le}
 use lib.Ieee.Exact.{HasValue}
 use lib.Ieee.Fits.{down_pos}
@@ -39,28 +38,15 @@ number_pattern n e = subst (λ (b : Bool). T (not b)) (sym (nan_bits_is binary32
 pub no_nan-pattern : (n : ℕ) → n % 0x8000_0000 ≤ 0x7F80_0000 → T (not (nan_bits binary32 n))
 no_nan-pattern n h = subst (λ (b : Bool). T (not b)) (sym (nan_bits_above binary32 n ∙ le-ltb _ _ h)) tt
 
--- zero over zero, by which the code makes its NaN
-pub zero-over-zero : div binary32 (of_bits binary32 0) (of_bits binary32 0) ≡ nan
-unfolding div of_bits
-zero-over-zero = refl
+-- the NaN of the source
+pub nan_constant : of_bits binary32 0x7FC0_0000 ≡ nan
+unfolding of_bits
+nan_constant = refl
 
--- what a float's test on itself tells
-pub same_no_nan : (x : Float) → ne x x ≡ false → T (not (is_nan x))
-unfolding is_nan ne
-same_no_nan nan e = absurd (subst T e tt)
-same_no_nan (inf s) e = tt
-same_no_nan (fin s m e) h = tt
-
-pub nan_tells : (x : Float) → ne x x ≡ true → is_nan x ≡ true
-unfolding is_nan
-nan_tells x e = rw (differs_from_itself x (subst T (sym e) tt)) refl
-
-pub number_tells : (x : Float) → ne x x ≡ false → is_nan x ≡ false
-number_tells x e = is_false (is_nan x) (same_no_nan x e)
-
-pub nan_differs_bits : (x : Float) → ne x x ≡ true → to_bits binary32 x ≡ 0x7FC0_0000
+-- the one pattern that a NaN is written as
+pub nan_written : (x : Float) → is_nan x ≡ true → to_bits binary32 x ≡ 0x7FC0_0000
 unfolding to_bits
-nan_differs_bits x e = rw (differs_from_itself x (subst T (sym e) tt)) refl
+nan_written x e = rw (is_nan_lem x e) refl
 
 -- ---- floats that are not finite
 

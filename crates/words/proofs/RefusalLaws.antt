@@ -7,9 +7,8 @@ use mathlib.Core.Bool.{Bool, true, false, not, ◌||◌, cond}
 use mathlib.Core.List.{List}
 use mathlib.Core.Path.{◌≡◌, refl, sym}
 use native.Mathlib.Omega.{arith}
-use Rattle.words.specs.Bytes.{bytes_of}
-use Rattle.words.specs.Limits.{most_dims, most_places}
-use Rattle.words.specs.Refusals.{after, answer, or_else, bad_dims, bad_length, bad_lists, size_number, size_answer}
+use Rattle.words.specs.Limits.{most_places}
+use Rattle.words.specs.Refusals.{after, answer, or_else, bad_dims, bad_length, bad_lists}
 
 -- ---- tests
 
@@ -21,13 +20,6 @@ no_row false n rest e = (refl, e)
 pub neither : (a b : Bool) → (a || b) ≡ false → (a ≡ false) × (b ≡ false)
 neither true b e = (e, cc)
 neither false b e = (refl, e)
-
--- one of two tests, as a call makes them one after the other
-pub first_bad : (a b : Bool) → a ≡ true → (a || b) ≡ true
-first_bad a b e = rw e refl
-
-pub second_bad : (a b : Bool) → a ≡ false → b ≡ true → (a || b) ≡ true
-second_bad a b e f = rw (e, f) refl
 
 pub none_bad : (a b : Bool) → a ≡ false → b ≡ false → (a || b) ≡ false
 none_bad a b e f = rw (e, f) refl
@@ -99,13 +91,3 @@ refuses n m old new e = rw e refl
 pub refuses_as : (n r : ℕ) (old new : List ℕ) → r ≡ n → (r ≡ 0 → ⊥) → (r, old) ≡ answer n old new
 unfolding answer
 refuses_as n r old new e h = rw (sym e, after_refused r old new h) refl
-
--- a call that gives a size, at each return
-module _ (dims size : ℕ) (out : List ℕ) where
-  pub size_dims : bad_dims most_dims dims ≡ true → (1, out) ≡ size_answer dims size out
-  unfolding size_answer size_number
-  size_dims h = refuses _ 0 out _ (rw h refl)
-
-  pub size-judged : bad_dims most_dims dims ≡ false → answer (cond (bad_length out 4) 3 0) out (bytes_of 4 size) ≡ size_answer dims size out
-  unfolding size_answer size_number
-  size-judged h = rw h refl

@@ -1,7 +1,7 @@
 -- The metric of a call, as a number: 1 is L2, 2 is dot.
 use Rattle.std.specs.Prelude.{ℕ, cond, eqb}
-use Rattle.words.specs.declared.Metric.{Metric}
-use Rattle.words.specs.declared.Metric.TheVariants.{L2, Dot}
+use Rattle.words.specs.declared.metric.Metric.{Metric}
+use Rattle.words.specs.declared.metric.Metric.TheVariants.{L2, Dot}
 
 -- the metric of 1 or 2: a call refuses every other number first
 unfoldable pub metric_of : ℕ → Metric

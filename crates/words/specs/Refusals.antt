@@ -1,8 +1,33 @@
 -- The paper's table of refusals: 1 BAD_DIMS, 2 BAD_WIDTH, 3 BAD_LENGTH, 4 MISSING, 5 BAD_VALUE, 6 OUT_OF_RANGE, 7 NO_ROOM,
 -- 8 NO_ESTIMATE, 9 NOT_ASKED; 0 is accepted. What a call answers is the smallest that holds, so its table is a chain of tests.
-use Rattle.std.specs.Prelude.{ℕ, zero, suc, ◌*◌, Bool, not, ◌||◌, cond, List, ltb, eqb, length}
+use Rattle.std.specs.Prelude.{◌≡◌, ℕ, zero, suc, ◌*◌, Bool, true, false, not, ◌||◌, cond, List, ltb, eqb, length, Ok, Err}
+use Rattle.std.specs.declared.result.Result.{Result}
+use Rattle.words.specs.declared.refusal.Refusal.{Refusal}
+use Rattle.words.specs.declared.refusal.Refusal.TheVariants.{BadDims, BadWidth, BadLength, Missing, BadValue, OutOfRange, NoRoom, NoEstimate, NotAsked}
 use Rattle.words.specs.Bytes.{bytes_of}
 use Rattle.words.specs.Limits.{most_dims, most_places}
+
+-- the paper's number of a refusal
+abbrev pub number_of : Refusal → ℕ
+number_of BadDims = 1
+number_of BadWidth = 2
+number_of BadLength = 3
+number_of Missing = 4
+number_of BadValue = 5
+number_of OutOfRange = 6
+number_of NoRoom = 7
+number_of NoEstimate = 8
+number_of NotAsked = 9
+
+-- the number of an answer: 0 where it is accepted
+abbrev pub status : {A : Type 0} → Result A Refusal → ℕ
+status (Ok x) = 0
+status (Err e) = number_of e
+
+-- a test: it refuses with e exactly where b holds
+abbrev pub RefusedIf : {A : Type 0} → Bool → Refusal → Result A Refusal → Type 0
+RefusedIf b e (Ok x) = b ≡ false
+RefusedIf b e (Err f) = (b ≡ true) × (f ≡ e)
 
 -- what a writable buffer has after a call with the number n: the old bytes where it was refused
 unfoldable pub after : ℕ → List ℕ → List ℕ → List ℕ

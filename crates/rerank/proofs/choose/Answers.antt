@@ -1,40 +1,42 @@
 -- `rerank::choose` meets its contract. Assumes nothing.
 use native.Mathlib.Omega.{arith}
-use Rattle.words.proofs.RefusalLaws.{lists_are}
-use Rattle.rerank.proofs.ChoiceLaws.{ask_small, says_ask, says-done, give_small, give_room, says_give}
+use Rattle.rerank.proofs.ChoiceLaws.{waiting_of, asked_of, says_ask, says-done, says_give}
 use Rattle.rerank.proofs.choose.Goals as goal
 
-pub first_at-w-requires : goal.first_at-w-requires
-first_at-w-requires c = (lists_are _ _ _ c.requires.sized).1
-
-pub overflow_cast-result : goal.overflow_cast-result
-overflow_cast-result c = omega (arith, ask_small _ _ _ _ c.requires _ c.if-keys.true c.first_at-w.ensures)
-
-pub returns-then-keys : goal.returns-then-keys
-returns-then-keys c = says_ask _ _ _ _ c.requires _ c.if-keys.true c.first_at-w.ensures
-
-pub returns-then-keys-2 : goal.returns-then-keys-2
-returns-then-keys-2 c = says-done _ _ _ _ c.requires c.if-keys.false c.if-keys-2.true
-
-pub first_at-a-requires : goal.first_at-a-requires
-first_at-a-requires c = (lists_are _ _ _ c.requires.sized).2
-
-pub overflow_cast-result-2 : goal.overflow_cast-result-2
-overflow_cast-result-2 c =
+pub returns-in-None-None : goal.returns-in-None-None
+returns-in-None-None c =
     let pre = c.requires in
-    let if1 = c.if-keys.false in
-    omega (arith, give_small _ _ _ _ pre _ if1 c.if-keys-2.false c.first_at-a.ensures)
+    let at = c.in-None-None in
+    says-done _ _ pre (waiting_of _ _ pre _ _ at.is-0 c.waiting.ensures) (asked_of _ _ pre _ _ at.is-1 c.asked.ensures)
 
-pub f32_at-requires : goal.f32_at-requires
-f32_at-requires c =
+pub returns-in-None-Some : goal.returns-in-None-Some
+returns-in-None-Some c =
     let pre = c.requires in
-    let if1 = c.if-keys.false in
-    give_room _ _ _ _ pre _ if1 c.if-keys-2.false c.first_at-a.ensures
+    let at = c.in-None-Some in
+    let w = waiting_of _ _ pre _ _ at.is-0 c.waiting.ensures in
+    let a = asked_of _ _ pre _ _ at.is-1 c.asked.ensures in
+    says_give _ _ pre _ a (omega (arith, w, a.0)) _ c.give.ensures
 
-pub returns : goal.returns
-returns c =
+pub returns-in-Some-None : goal.returns-in-Some-None
+returns-in-Some-None c =
     let pre = c.requires in
-    let if1 = c.if-keys.false in
-    let if2 = c.if-keys-2.false in
-    let first = c.first_at-a.ensures in
-    rw c.f32_at.ensures (says_give _ _ _ _ pre _ if1 if2 first)
+    let at = c.in-Some-None in
+    let w = waiting_of _ _ pre _ _ at.is-0 c.waiting.ensures in
+    let a = asked_of _ _ pre _ _ at.is-1 c.asked.ensures in
+    says_ask _ _ pre _ w (omega (arith, w.0, a)) _ c.ask.ensures
+
+pub returns-then-w-a : goal.returns-then-w-a
+returns-then-w-a c =
+    let pre = c.requires in
+    let at = c.in-Some-Some in
+    let w = waiting_of _ _ pre _ _ at.is-0 c.waiting.ensures in
+    let a = asked_of _ _ pre _ _ at.is-1 c.asked.ensures in
+    says_ask _ _ pre _ w (omega (arith, c.if-w-a.true, a.1.key)) _ c.ask-then-w-a.ensures
+
+pub returns-else-w-a : goal.returns-else-w-a
+returns-else-w-a c =
+    let pre = c.requires in
+    let at = c.in-Some-Some in
+    let w = waiting_of _ _ pre _ _ at.is-0 c.waiting.ensures in
+    let a = asked_of _ _ pre _ _ at.is-1 c.asked.ensures in
+    says_give _ _ pre _ a (omega (arith, c.if-w-a.false, w.1.key)) _ c.give-else-w-a.ensures

@@ -1,32 +1,20 @@
 -- `rerank::rule_on` meets its contract. Assumes nothing.
-use mathlib.Core.Path.{refl, sym, ◌∙◌}
-use Rattle.words.proofs.RefusalLaws.{neither}
-use Rattle.rerank.proofs.FoundLaws.{sized_of}
-use Rattle.rerank.proofs.CallLaws.{ruled_lengths, ruled_found, accepting, ruled-accepted}
+use Rattle.rerank.proofs.FoundLaws.{missing_refused, bad_refused}
+use Rattle.rerank.proofs.CallLaws.{accepting, count_is}
 use Rattle.rerank.proofs.rule_on.Goals as goal
 
-pub returns-then-bad_lengths : goal.returns-then-bad_lengths
-returns-then-bad_lengths c = ruled_lengths _ _ _ _ _ _ c.bad_lengths.ensures _ c.refused_with.ensures c.if-bad_lengths.true
+pub returns-then-s-gt0 : goal.returns-then-s-gt0
+returns-then-s-gt0 c = missing_refused _ _ c.scan-s.ensures.scanned c.if-s-gt0.true
 
-pub scan_lists-s-requires : goal.scan_lists-s-requires
-scan_lists-s-requires c = sized_of _ _ _ (neither _ _ (sym c.bad_lengths.ensures ∙ c.if-bad_lengths.false)).0
-
-pub returns-then-refused-ne-ACCEPTED : goal.returns-then-refused-ne-ACCEPTED
-returns-then-refused-ne-ACCEPTED c =
-    let fit = c.bad_lengths.ensures in
-    let scan = c.scan_lists-s.ensures in
-    let if1 = c.if-bad_lengths.false in
-    ruled_found _ _ _ _ _ _ fit if1 _ scan _ c.refusal-refused.ensures _ c.refused_with-then-refused-ne-ACCEPTED.ensures c.if-refused-ne-ACCEPTED.true
+pub returns-then-s-gt0-2 : goal.returns-then-s-gt0-2
+returns-then-s-gt0-2 c = bad_refused _ _ c.scan-s.ensures.scanned c.if-s-gt0.false c.if-s-gt0-2.true
 
 pub choose-requires : goal.choose-requires
-choose-requires c =
-    let fit = c.bad_lengths.ensures in
-    let scan = c.scan_lists-s.ensures in
-    accepting _ _ _ _ _ _ fit c.if-bad_lengths.false _ scan _ c.refusal-refused.ensures c.if-refused-ne-ACCEPTED.false
+choose-requires c = accepting _ c.scan-s.ensures.sized _ c.scan-s.ensures.scanned c.if-s-gt0.false c.if-s-gt0-2.false
 
 pub returns : goal.returns
 returns c =
-    let fit = c.bad_lengths.ensures in
-    let scan = c.scan_lists-s.ensures in
-    let if1 = c.if-bad_lengths.false in
-    ruled-accepted _ _ _ _ _ _ fit if1 _ scan _ c.refusal-refused.ensures c.if-refused-ne-ACCEPTED.false _ refl c.choose.ensures refl
+    let scan = c.scan-s.ensures in
+    let missing = c.if-s-gt0.false in
+    let bad = c.if-s-gt0-2.false in
+    ((accepting _ scan.sized _ scan.scanned missing bad).accepted, c.choose.ensures, count_is _ scan.sized _ scan.scanned missing bad)

@@ -2,12 +2,11 @@
 use mathlib.Core.Path.{◌≡◌}
 use mathlib.Core.List.{◌++◌}
 use Prim.Native.Nat.{◌+◌, ◌-◌, ◌*◌, ◌≤◌}
-use lib.ListN.{length, drop}
+use lib.ListN.{drop}
 use Rattle.words.specs.Bytes.{words_of}
 use Rattle.walk.proofs.put_ids.Given as goal
 
-abbrev pub invariant-loop-i : goal.invariant-loop-i
-invariant-loop-i l = (l.i ≤ l.c) × (length l.ids ≡ length l.initial.ids) × (l.ids ≡ words_of l.i (λ j. l.start + j) ++ drop (4 * l.i) l.initial.ids)
-
-abbrev pub decreases-loop-i : goal.decreases-loop-i
-decreases-loop-i l = l.c - l.i
+abbrev pub invariant-loop-id : goal.invariant-loop-id
+invariant-loop-id l =
+    let n = l.id - l.start in
+    (n ≤ l.end - l.start) × (l.ids ≡ words_of n (λ j. l.start + j) ++ drop (4 * n) l.initial.ids)

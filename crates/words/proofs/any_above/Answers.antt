@@ -1,26 +1,17 @@
 -- `words::any_above` meets its contract. Assumes nothing.
-use mathlib.Core.Path.{◌≡◌, ap, ◌∙◌}
-use Prim.Native.Nat.{zero-le}
 use native.Mathlib.Omega.{arith}
-use lib.Dec.{ltb}
-use lib.ListN.{length}
+use Rattle.std.proofs.Common.{◌≡◌, ◌∙◌, ap, rules, length}
+use Rattle.std.specs.Prelude.{ltb}
 use Rattle.words.specs.Lists.{any_above}
 use Rattle.words.proofs.ListLaws.{above-none, above_more}
 use Rattle.words.proofs.any_above.Goals as goal
 
-pub loop-i-init : goal.loop-i-init
-loop-i-init c = let a = c.args in (zero-le, above-none a.top a.s.now)
+pub loop-x-init : goal.loop-x-init
+loop-x-init c = above-none c.args.top c.args.s.now
 
-pub loop-i-preserved : goal.loop-i-preserved
-loop-i-preserved c =
-    let l = c.loop-i in
-    let a = c.args in
-    (omega arith, above_more a.top a.s.now l.i l.most _ l.invariant.1 c.larger-most.ensures)
+pub loop-x-preserved : goal.loop-x-preserved
+loop-x-preserved c = let l = c.loop-x in above_more c.args.top c.args.s.now l.x-index l.most _ l.invariant (search rules)
 
 pub returns : goal.returns
 unfolding any_above
-returns c =
-    let l = c.loop-i in
-    let a = c.args in
-    let e : l.i ≡ length a.s.now = omega arith in
-    ap (ltb a.top) c.wide.ensures.0 ∙ (rw e at l.invariant.1)
+returns c = let l = c.loop-x in let e : l.x-index ≡ length c.args.s.now = omega arith in ap (ltb c.args.top) c.from.ensures ∙ (rw e at l.invariant)

@@ -5,4 +5,4 @@ use Rattle.scalar.proofs.parts.code.del_of.Goals as goal
 
 pub returns : goal.returns
 unfolding del_of
-returns c = refl
+returns c = rw c.from.ensures refl

@@ -1,86 +1,66 @@
 -- `scalar::parts::code::encode_bits` meets its contract, over the width. Assumes nothing.
-use Prim.Native.Nat.{◌+◌, ◌-◌, ◌<◌}
-use mathlib.Core.Path.{◌≡◌, ◌∙◌}
+use Prim.Native.Nat.{ℕ, ◌+◌, ◌-◌, ◌*◌, ◌/◌, ◌<◌, ◌≤◌}
+use mathlib.Core.Path.{◌≡◌, ◌∙◌, sym}
 use native.Mathlib.Omega.{arith}
 use borrow.Author.Count.{below_none}
 use lib.ListN.{length-set}
 use Rattle.words.proofs.ListLaws.{filled_more}
-use Rattle.digits.specs.Digits.{packed_size}
-use Rattle.digits.proofs.DigitLaws.{per_pos, per_le, next_place, room, all_done, one_left}
+use Rattle.digits.specs.Digits.{per_byte, packed_size, packed_byte, top}
+use Rattle.digits.proofs.DigitLaws.{whole_byte, none_left, some_left}
+use Rattle.scalar.specs.Code.{codes_of}
 use Rattle.scalar.proofs.ScalarLaws.{whole_codes, last_codes, scalar_filled}
 use Rattle.scalar.proofs.parts.code.encode_bits.Goals as goal
-use Rattle.scalar.proofs.parts.code.encode_bits.Goals.{After-join_at, After-join_at-then-at-dims}
+use Rattle.scalar.proofs.parts.code.encode_bits.Goals.{In-loop-k, Then-at-dims}
 
--- byte k is within the code
-within : (c : After-join_at) → c.loop-at.k < packed_size c.args.bits c.args.dims
-within c =
-    let a = c.args in
-    let l = c.loop-at in
-    room a.bits l.k l.at a.dims c.requires.sizes.0 l.invariant.0 (omega (arith, per_pos a.bits c.requires.sizes.0))
+end : (k n : ℕ) → k ≤ n → n ≤ k → k ≡ n
+end k n l m = omega arith
 
--- the last byte is the one that is left
-left : (c : After-join_at-then-at-dims) → packed_size c.args.bits c.args.dims ≡ c.loop-at.k + 1
-left c =
-    let a = c.args in
-    let l = c.loop-at in
-    one_left a.bits l.k l.at a.dims c.requires.sizes.0 l.invariant.0 c.if-at-dims.true (omega arith)
+-- byte k is one of the whole ones
+whole : (g : _) (c : In-loop-k g) → let w = g.row.BITS in let n = c.args.v.dims in
+    (c.loop-k.k * per_byte w + per_byte w ≤ n) × (c.loop-k.k < packed_size w n)
+whole g c = whole_byte g.row.BITS c.args.v.dims c.requires.0 c.loop-k.k (rw (c.dims-dims.ensures.0, c.per_byte-per.ensures.0) at c.loop-k-test.true)
 
-pub loop-at-init : goal.loop-at-init
-loop-at-init c = (omega arith, omega arith, c.requires.sizes.4, below_none _)
+-- the last byte
+left : (g : _) (c : Then-at-dims g) → let w = g.row.BITS in let n = c.args.v.dims in
+    (packed_size w n ≡ n / per_byte w + 1) × (n - n / per_byte w * per_byte w ≤ per_byte w)
+left g c = some_left g.row.BITS c.args.v.dims c.requires.0 (rw (c.dims-dims.ensures.0, c.per_byte-per.ensures.0) at c.if-at-dims.true)
 
-pub overflow_add-at : goal.overflow_add-at
-overflow_add-at c = omega (arith, per_le c.args.bits c.requires.sizes.0)
-
-pub join_at-requires : goal.join_at-requires
-join_at-requires c =
-    record { fine = c.requires.fine; sizes = (c.requires.sizes.0, c.requires.sizes.2, omega arith, c.loop-at-test.true) }
+pub loop-k-init : goal.loop-k-init
+loop-k-init g c = (c.requires.1, below_none _)
 
 pub bounds-out-k : goal.bounds-out-k
-bounds-out-k c = omega (arith, within (goal.at.bounds-out-k c).After-join_at)
+bounds-out-k g c = omega (arith, whole g (goal.at.bounds-out-k g c).In-loop-k)
 
-pub overflow_add-k : goal.overflow_add-k
-overflow_add-k c = omega (arith, within (goal.at.overflow_add-k c).After-join_at)
-
-pub loop-at-smaller : goal.loop-at-smaller
-loop-at-smaller c =
-    omega (arith, per_pos c.args.bits c.requires.sizes.0)
-
-pub loop-at-preserved : goal.loop-at-preserved
-loop-at-preserved c =
-    let l = c.loop-at in
-    let a = c.args in
-    let p = c.requires.sizes in
-    let t = c.loop-at-test.true in
-    let e = whole_codes a.bits a.dims a.vector.now a.lo.now a.hi.now l.k l.at a.per a.top l.invariant.0 p.1 p.2 t in (
-      next_place a.bits l.k l.at a.per l.invariant.0 p.1,
-      t,
-      simp length-set l.invariant.2,
-      filled_more _ l.out l.k c.join_at.result (omega (arith, within (goal.at.loop-at-preserved c).After-join_at)) l.invariant.3 (c.join_at.ensures ∙ e),
+pub loop-k-preserved : goal.loop-k-preserved
+loop-k-preserved g c =
+    let l = c.loop-k in let w = g.row.BITS in let v = c.args.v in
+    let k = whole g (goal.at.loop-k-preserved g c).In-loop-k in (
+      simp length-set l.invariant.0,
+      filled_more (packed_byte w (codes_of (top w) v.dims v.vector v.lo v.hi)) l.out l.k c.join_at.result (omega arith) l.invariant.1
+          ((rw c.per_byte-per.ensures.0 at c.join_at.ensures) ∙ whole_codes w v.dims v.vector v.lo v.hi l.k k.0),
     )
 
-pub join_at-requires-then-at-dims : goal.join_at-requires-then-at-dims
-join_at-requires-then-at-dims c =
-    record { fine = c.requires.fine; sizes = (c.requires.sizes.0, c.requires.sizes.2, omega arith, omega arith) }
-
-pub bounds-out-k-then-at-dims : goal.bounds-out-k-then-at-dims
-bounds-out-k-then-at-dims c = omega (arith, left (goal.at.bounds-out-k-then-at-dims c).After-join_at-then-at-dims)
-
-pub shape_of-out-then-at-dims : goal.shape_of-out-then-at-dims
-shape_of-out-then-at-dims c = simp length-set (omega arith)
+pub bounds-out-whole : goal.bounds-out-whole
+bounds-out-whole g c =
+    rw (c.dims-dims.ensures.0, c.per_byte-per.ensures.0) (omega (arith, left g (goal.at.bounds-out-whole g c).Then-at-dims))
 
 pub returns-then-at-dims : goal.returns-then-at-dims
-returns-then-at-dims c =
-    let l = c.loop-at in
-    let a = c.args in
-    let n = a.dims - l.at in
-    let t = c.requires.sizes.2 in
-    let e = last_codes a.bits a.dims a.vector.now a.lo.now a.hi.now l.k l.at n a.top l.invariant.0 (omega arith) t (omega arith) in
-    scalar_filled a.bits a.dims a.vector.now a.lo.now a.hi.now _ (simp length-set l.invariant.2)
-    (rw (left (goal.at.returns-then-at-dims c).After-join_at-then-at-dims) (filled_more _ l.out l.k c.join_at-then-at-dims.result (omega (arith, left (goal.at.returns-then-at-dims c).After-join_at-then-at-dims)) l.invariant.3 (c.join_at-then-at-dims.ensures ∙ e)))
+returns-then-at-dims g c =
+    let l = c.loop-k in let w = g.row.BITS in let v = c.args.v in
+    let d = c.dims-dims.ensures.0 in let per = c.per_byte-per.ensures.0 in
+    let t = left g (goal.at.returns-then-at-dims g c).Then-at-dims in
+    let e : l.k ≡ v.dims / per_byte w = rw (d, per) at (end l.k (c.dims-dims.result / c.per_byte-per.result) l.auto.k-end c.loop-k-test.false) in
+    let b = rw (d, per, ← e) at c.join_at-then-at-dims.ensures in
+    let m : l.k * per_byte w < v.dims = rw (d, per, ← e) at c.if-at-dims.true in
+    scalar_filled w v.dims v.vector v.lo v.hi _ (simp length-set l.invariant.0)
+    (rw (t.0, d, per, ← e)
+    (filled_more _ l.out l.k c.join_at-then-at-dims.result (omega arith) l.invariant.1
+    (b ∙ last_codes w v.dims v.vector v.lo v.hi l.k _ (rw e t.1) (omega arith))))
 
 pub returns-else-at-dims : goal.returns-else-at-dims
-returns-else-at-dims c =
-    let l = c.loop-at in
-    let a = c.args in
-    let e : packed_size a.bits a.dims ≡ l.k = all_done a.bits l.k l.at a.dims c.requires.sizes.0 l.invariant.0 (omega arith) in
-    scalar_filled a.bits a.dims a.vector.now a.lo.now a.hi.now l.out l.invariant.2 (rw e l.invariant.3)
+returns-else-at-dims g c =
+    let l = c.loop-k in let w = g.row.BITS in let v = c.args.v in
+    let d = c.dims-dims.ensures.0 in let per = c.per_byte-per.ensures.0 in
+    let e : v.dims / per_byte w ≡ l.k = rw (d, per) at (sym (end l.k (c.dims-dims.result / c.per_byte-per.result) l.auto.k-end c.loop-k-test.false)) in
+    let n = none_left w v.dims c.requires.0 (rw (d, per) at c.if-at-dims.false) ∙ e in
+    scalar_filled w v.dims v.vector v.lo v.hi l.out l.invariant.0 (rw n l.invariant.1)

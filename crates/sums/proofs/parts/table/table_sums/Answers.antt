@@ -1,19 +1,13 @@
 -- `sums::parts::table::table_sums` meets its contract. Assumes nothing.
-use mathlib.Core.Path.{subst}
-use mathlib.Core.List.{List}
-use Prim.Native.Nat.{ℕ, ◌-◌}
-use native.Mathlib.Omega.{arith}
-use lib.ListN.{length, drop, length-drop}
+use Rattle.std.proofs.Common.{◌≡◌, ◌-◌, ap, arith, length, drop, length-drop}
 use lib.Seq.{take_all}
 use Rattle.block.specs.Block.{block_groups}
-use Rattle.sums.specs.Parts.{Scanned}
 use Rattle.sums.proofs.TableLaws.{scanned_plain}
 use Rattle.sums.proofs.parts.table.table_sums.Goals as goal
 
 pub returns : goal.returns
 returns c =
-    let a = c.args in
-    let all = take_all (length a.block.now - 512) (drop 512 a.block.now) (omega (arith, length-drop 512 a.block.now)) in
-    scanned_plain a.q.now c.gen_table.new.t a.block.now c.requires.0 c.gen_table.ensures
-    (subst (λ (l : List ℕ). Scanned c.gen_table.new.t l (block_groups (length a.q.now)) c.fast_scan_b4.result) all
-    c.fast_scan_b4.ensures)
+    let block = c.args.block.now in
+    let all = take_all (length block - 512) (drop 512 block) (omega (arith, length-drop 512 block)) in
+    let n : c.div_ceil.result ≡ block_groups (length c.args.q.now) = omega (arith, ap length c.as_slice.ensures.same) in
+    scanned_plain _ _ block c.as_slice.ensures.judged c.gen_table.ensures (rw (all, n) at c.fast_scan_b4.ensures)

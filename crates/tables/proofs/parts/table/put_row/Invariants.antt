@@ -1,5 +1,4 @@
 -- `tables::parts::table::put_row` meets its contract. Assumes nothing.
-use Prim.Native.Nat.{◌-◌, ◌≤◌}
 use mathlib.Core.Path.{◌≡◌}
 use lib.Seq.{sets}
 use Rattle.words.specs.Bytes.{float_bytes}
@@ -8,7 +7,4 @@ use Rattle.scalar.specs.Table.{entry_of}
 use Rattle.tables.proofs.parts.table.put_row.Given as goal
 
 abbrev pub invariant-loop-j : goal.invariant-loop-j
-invariant-loop-j l = (l.j ≤ l.n) × (l.out ≡ sets l.initial.out l.at (joined l.j (λ j. float_bytes (entry_of l.m l.x l.lo l.del j))))
-
-abbrev pub decreases-loop-j : goal.decreases-loop-j
-decreases-loop-j l = l.n - l.j
+invariant-loop-j l = l.out ≡ sets l.initial.out l.at (joined l.j (λ j. float_bytes (entry_of l.m l.x l.lo l.del j)))

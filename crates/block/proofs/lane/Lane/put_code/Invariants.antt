@@ -1,0 +1,12 @@
+-- The loop's invariant: the first i bytes are those of the code.
+use mathlib.Core.Path.{◌≡◌}
+use Prim.Native.Nat.{ℕ, ◌<◌}
+use lib.ListN.{length, get_or}
+use Rattle.code.specs.Code.{code_size, code_byte}
+use Rattle.block.specs.Block.{lane_factor, lane_bit}
+use Rattle.block.proofs.lane.Lane.put_code.Given as goal
+
+abbrev pub invariant-loop-i : goal.invariant-loop-i
+invariant-loop-i l =
+    (length l.code ≡ code_size l.self.dims)
+    × ((j : ℕ) → j < l.i → get_or l.code j 0 ≡ code_byte l.self.dims (lane_factor l.self.block l.self.k) (lane_bit l.self.block l.self.k) j)

@@ -1,0 +1,150 @@
+// The candidates, as the library wants them: lists with a place for each.
+ghost use Rattle.std.specs.Prelude.{◌≡◌, ◌+◌, ◌^◌, ◌<◌, ◌≤◌, length, OnOk, IfOk};
+ghost use Rattle.words.specs.Limits.{most_places};
+
+use crate::fault::Fault;
+use crate::job::Job;
+use rerank::Answer;
+use std::io::Read;
+use words::{MOST_PLACES, Refusal};
+
+// The records are blocks. lk_walk takes the layout's number, as C does.
+const BLOCKS: u32 = 2;
+
+// Of each candidate: which record of its block it is, its lower bound, its exact distance, and its mark. The first len places are filled.
+#[derive(Drop)]
+pub struct Lists {
+    pub len: usize,
+    ids: [u8; 4 * MOST_PLACES],
+    bounds: [u8; 4 * MOST_PLACES],
+    distances: [u8; 4 * MOST_PLACES],
+    marks: [u8; MOST_PLACES],
+    ghost room: { len ≤ most_places },
+}
+
+// Number i of s, and 0 where s has no such number.
+fn number_at(s: &[u8], i: u32) -> u32 {
+    match s.as_chunks::<4>().0.get(i as usize) {
+        Some(four) => u32::from_le_bytes(*four),
+        None => 0,
+    }
+}
+
+impl Lists {
+    // The walk of a block whose first m records become candidates. Where there are too few places, it refuses.
+    fn walk(&mut self, job: &Job, block: &[u8], m: u32) -> Result<(), Refusal>
+        ensures { OnOk result (self.new.len ≡ self.old.len + m) }
+    {
+        let from = self.len;
+        let to = (from + m as usize).min(MOST_PLACES);
+        let h = job.header;
+        let mut count = [0u8; 4];
+        lintelkite::lk_walk(
+            h.metric,
+            BLOCKS,
+            h.dims,
+            h.dis_v_2,
+            h.b,
+            h.k,
+            job.codes(),
+            block,
+            m,
+            0,
+            m,
+            &mut self.ids[4 * from..4 * to],
+            &mut self.bounds[4 * from..4 * to],
+            &mut self.marks[from..to],
+            &mut count,
+        )?;
+        self.len = to;
+        Ok(())
+    }
+
+    // All blocks, one after the other; the file ends with the last one. Every record becomes a candidate.
+    pub fn read(job: &Job, records: &mut impl Read) -> Result<Lists, Fault>
+        ensures { IfOk result (λ lists. lists.len ≡ job.now.header.n) }
+    {
+        let mut lists = Lists {
+            len: 0,
+            ids: [0; 4 * MOST_PLACES],
+            bounds: [0; 4 * MOST_PLACES],
+            distances: [0; 4 * MOST_PLACES],
+            marks: [0; MOST_PLACES],
+        };
+        // a walk over no record at all judges what doesn't depend on one: the metric, the dims and the query
+        lists.walk(job, b"", 0).map_err(Fault::Query)?;
+        let n = job.header.n as usize;
+        // no heap: room for the longest block
+        let mut block = [0u8; 18000];
+        let block = &mut block[..job.size];
+        while lists.len < n {
+            let first = lists.len;
+            let m = (n - first).min(32) as u32;
+            records
+                .read_exact(block)
+                .map_err(|_| Fault::ShortBlock(first))?;
+            lists
+                .walk(job, block, m)
+                .map_err(|why| Fault::Block(first, why))?;
+        }
+        if records.read_exact(&mut [0]).is_ok() {
+            return Err(Fault::Longer);
+        }
+        Ok(lists)
+    }
+
+    // The record of a place. A walk counts from the first record of its block, and the blocks before it had 32 records each.
+    pub fn record(&self, place: u32) -> u64
+        ensures { result < 2 ^ 33 }
+    {
+        u64::from(place / 32 * 32) + u64::from(number_at(&self.ids, place))
+    }
+
+    // What the reranker says to do next.
+    pub fn next(&mut self) -> Result<Answer, Refusal> {
+        let n = self.len;
+        // the check doesn't follow a part of a field here, but a part of a slice of it
+        let distances = &mut self.distances[..];
+        let marks = &mut self.marks[..];
+        let mut out = [0u8; 16];
+        lintelkite::lk_rerank_next(
+            &self.bounds[..4 * n],
+            &distances[..4 * n],
+            &mut marks[..n],
+            &mut out,
+        )?;
+        Answer::try_from(&out[..])
+    }
+
+    // The distance of a place is supplied. One that is below its lower bound would break the order.
+    pub fn supply(&mut self, place: u32, distance: f32) -> Result<(), Fault> {
+        let n = self.len;
+        let of = self.record(place);
+        // as in next
+        let distances = &mut self.distances[..];
+        let marks = &mut self.marks[..];
+        let mut count = [0u8; 4];
+        lintelkite::lk_rerank_supply(
+            &self.bounds[..4 * n],
+            &mut distances[..4 * n],
+            &mut marks[..n],
+            place,
+            distance,
+            &mut count,
+        )
+        .map_err(|why| Fault::Distance(of, why))?;
+        let bound = number_at(&self.bounds[..4 * n], place);
+        if distance < words::f32_at(&bound.to_le_bytes(), 0) {
+            return Err(Fault::Below(of));
+        }
+        Ok(())
+    }
+
+    // How many candidates still wait: their distances were never read.
+    pub fn waiting(&self) -> usize {
+        self.marks[..self.len]
+            .iter()
+            .filter(|mark| **mark == words::WAITING)
+            .count()
+    }
+}

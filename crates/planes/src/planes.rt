@@ -1,0 +1,142 @@
+// The planes of a query: four bit planes, whose counts of ones weigh 1, 2, 4 and 8.
+ghost use Rattle.std.specs.Prelude.{◌≡◌, ℕ, ◌+◌, ◌*◌, ◌<◌, ◌≤◌, List, length, get_or};
+ghost use Rattle.std.specs.Int.Bits.{bit_and};
+ghost use Rattle.std.specs.Int.Count.{ones};
+ghost use Rattle.words.specs.Bytes.{num_at};
+ghost use Rattle.words.specs.Digits.{bit, join};
+ghost use Rattle.words.specs.Limits.{most_dims, most_sum};
+ghost use Rattle.words.specs.Sums.{sum_to};
+ghost use Rattle.code.specs.Code.{code_words, words_bit};
+ghost use Rattle.sums.specs.Sums.{plain_sum, plane_word};
+ghost use Rattle.planes.specs.Parts.{IsPlane};
+ghost use Rattle.planes.specs.Parts as parts;
+
+use std::marker::Model;
+use sums::QueryCodes;
+use words::{MOST_DIMS, u32_at, u64_at};
+
+// How many words the planes of a query have at most.
+pub const PLANES: usize = 4 * ((MOST_DIMS as usize + 63) / 64);
+
+// A query and its planes, one after the other in room that is lent. Clauses see the query's codes.
+#[derive(Drop)]
+pub struct Planes<'a> {
+    query: &'a QueryCodes<'a>,
+    words: &'a [u64],
+}
+
+impl<'a> Model for Planes<'a> {
+    ghost Value = { List ℕ };
+
+    ghost view = { λ p. p.query.now };
+
+    ghost invariant = { λ p. parts.Planes p.query.now p.words.now };
+}
+
+impl<'a> Planes<'a> {
+    // The Rust's function of this name.
+    pub fn binarize(query: &'a QueryCodes<'a>, room: &'a mut [u64; PLANES]) -> Planes<'a>
+        ensures { result ≡ query.now }
+    {
+        fill_planes(query.as_slice(), room);
+        Planes { query, words: room }
+    }
+
+    // The sum of a single code, from its word bytes, one pass for each plane. The Rust's function of this name.
+    pub fn asymmetric_binary_dot_product(&self, words: &[u8]) -> u32
+        requires { length words.now ≡ 8 * code_words (length self.now) }
+        ensures { (result ≡ plain_sum self.now (words_bit words.now)) × (result ≤ most_sum) }
+    {
+        let t = self.words;
+        let n = (self.query.as_slice().len() + 63) / 64;
+        plane_ones(words, &t[0..n])
+            + 2 * plane_ones(words, &t[n..2 * n])
+            + 4 * plane_ones(words, &t[2 * n..3 * n])
+            + 8 * plane_ones(words, &t[3 * n..4 * n])
+    }
+}
+
+// The planes of a query, in a buffer of their size or a longer one. Written out: a loop over p would find its plane by a product of two
+// variables, whose bounds are longer to state than four lines.
+fn fill_planes(q: &[u8], t: &mut [u64])
+    requires { (length q.now ≤ most_dims) × (4 * code_words (length q.now) ≤ length t.old) }
+    ensures { parts.Planes q.now t.new }
+{
+    let n = (q.len() + 63) / 64;
+    fill_plane(q, 0, &mut t[0..n]);
+    fill_plane(q, 1, &mut t[n..2 * n]);
+    fill_plane(q, 2, &mut t[2 * n..3 * n]);
+    fill_plane(q, 3, &mut t[3 * n..4 * n]);
+}
+
+// Plane p of a query.
+fn fill_plane(q: &[u8], p: u32, plane: &mut [u64])
+    requires { (p < 4) × (length q.now ≤ most_dims) × (length plane.old ≡ code_words (length q.now)) }
+    ensures { IsPlane q.now p plane.new }
+{
+    for w in 0..plane.len() {
+        plane[w] = plane_word(q, p, w);
+    }
+}
+
+// Word w of plane p.
+fn plane_word(q: &[u8], p: u32, w: usize) -> u64
+    requires { (p < 4) × (length q.now ≤ most_dims) × (w < code_words (length q.now)) }
+    ensures { result ≡ plane_word q.now p w }
+{
+    let mut d = [0u8; 64];
+    let at = 64 * w;
+    let end = (at + 64).min(q.len());
+    digits(&q[at..end], p, &mut d);
+    word(&d)
+}
+
+// Digit p of each of at most 64 codes, over zeros.
+fn digits(q: &[u8], p: u32, d: &mut [u8])
+    requires { (p < 4) × (length q.now ≤ length d.old) × ((i : ℕ) → get_or d.old i 0 ≡ 0) }
+    ensures { (i : ℕ) → get_or d.new i 0 ≡ bit (get_or q.now i 0) p }
+{
+    for i in 0..q.len() {
+        d[i] = (q[i] >> p) % 2;
+    }
+}
+
+// Sixteen times four digits as one word.
+fn word(d: &[u8]) -> u64
+    requires { (length d.now ≡ 64) × ((i : ℕ) → get_or d.now i 0 < 2) }
+    ensures { result ≡ join 1 64 (λ i. get_or d.now i 0) }
+{
+    let mut r = 0u64;
+    for k in 0..16 {
+        r += nibble(d, k) << (4 * k);
+    }
+    r
+}
+
+// Four digits that stand in a byte each, as one number. The product has digit j of byte k at 8k + 7j, no two at one place, and from
+// place 21 on the four whose j and k add up to 3.
+fn nibble(d: &[u8], k: usize) -> u64
+    requires { (k < 16) × (length d.now ≡ 64) × ((i : ℕ) → get_or d.now i 0 < 2) }
+    ensures { (result ≡ join 1 4 (λ j. get_or d.now (4 * k + j) 0)) × (result < 16) }
+{
+    u64::from(u32_at(d, 4 * k)) * 0x20_4081 / 0x20_0000 % 16
+}
+
+// How many ones the words of a code share with those of a plane.
+fn plane_ones(words: &[u8], plane: &[u64]) -> u32
+    requires { (length plane.now ≤ code_words most_dims) × (8 * length plane.now ≤ length words.now) }
+    ensures { (result ≡ sum_to (length plane.now) (λ w. ones (bit_and (num_at 8 words.now (8 * w)) (get_or plane.now w 0)))) × (result ≤ 64 * length plane.now) }
+{
+    let mut r = 0u32;
+    for w in 0..plane.len() {
+        r += shared(u64_at(words, 8 * w), plane[w]);
+    }
+    r
+}
+
+// How many ones two words share.
+fn shared(a: u64, b: u64) -> u32
+    ensures { (result ≡ ones (bit_and a b)) × (result ≤ 64) }
+{
+    (a & b).count_ones()
+}

@@ -1,9 +1,0 @@
--- `scan::least_of` meets its contract. Assumes nothing.
-use borrow.Author.Tests.{lt-ltb, le-ltb}
-use Rattle.scan.proofs.least_of.Goals as goal
-
-pub returns-then-b-a : goal.returns-then-b-a
-returns-then-b-a c = rw (lt-ltb _ _ c.if-b-a.true)
-
-pub returns-else-b-a : goal.returns-else-b-a
-returns-else-b-a c = rw (le-ltb _ _ c.if-b-a.false)

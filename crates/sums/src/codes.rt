@@ -1,0 +1,69 @@
+// The codes of a query, judged.
+ghost use Rattle.std.specs.Prelude.{◌≡◌, ℕ, ◌≤◌, ◌<◌, List, length, IfOk};
+ghost use Rattle.words.specs.Limits.{most_dims, most_sum, top_code};
+ghost use Rattle.words.specs.Lists.{any_above};
+ghost use Rattle.words.specs.Refusals.{RefusedIf};
+ghost use Rattle.words.specs.declared.refusal.Refusal.TheVariants.{BadValue};
+ghost use Rattle.sums.specs.Sums.{query_sum};
+ghost use Rattle.sums.specs.Sums as sums;
+
+use std::marker::Model;
+use words::{Dims, MOST_DIMS, Refusal, TOP_CODE};
+
+// A query code for each of the dims, none above 15. Clauses see the list of them.
+#[derive(Drop)]
+pub struct QueryCodes<'a> {
+    dims: Dims<MOST_DIMS>,
+    codes: &'a [u8],
+}
+
+impl<'a> Model for QueryCodes<'a> {
+    ghost Value = { List ℕ };
+
+    ghost view = { λ q. q.codes.now };
+
+    ghost invariant = { λ q. (q.dims ≡ length q.codes.now) × (0 < length q.codes.now) × sums.QueryCodes q.codes.now };
+}
+
+impl<'a> QueryCodes<'a> {
+    // Refuses a code above 15.
+    #[tactic(auto, using(crate::proofs::CallLaws::query))]
+    pub fn judged(dims: Dims<MOST_DIMS>, codes: &'a [u8]) -> Result<QueryCodes<'a>, Refusal>
+        requires { length codes.now ≡ dims }
+        ensures refused { RefusedIf (any_above top_code codes.now) BadValue result }
+        ensures codes { IfOk result (λ q. q ≡ codes.now) }
+    {
+        // for the bounds of dims
+        let _ = dims.get();
+        if words::any_above(TOP_CODE, codes) {
+            return Err(Refusal::BadValue);
+        }
+        Ok(QueryCodes { dims, codes })
+    }
+
+    pub fn dims(&self) -> Dims<MOST_DIMS>
+        ensures { result ≡ length self.now }
+    {
+        self.dims
+    }
+
+    pub fn as_slice(&self) -> &[u8]
+        ensures same { result.now ≡ self.now }
+        ensures judged { sums.QueryCodes self.now }
+    {
+        self.codes
+    }
+
+    pub fn len(&self) -> usize
+        ensures { (result ≡ length self.now) × (0 < result) × (result ≤ most_dims) }
+    {
+        self.codes.len()
+    }
+
+    // The sum of all query codes.
+    pub fn total(&self) -> u32
+        ensures { (result ≡ query_sum self.now) × (result ≤ most_sum) }
+    {
+        self.codes.iter().map(|x| u32::from(*x)).sum()
+    }
+}

@@ -1,9 +1,0 @@
--- The place is at most the end of the line.
-use Rattle.std.proofs.Common.{◌≤◌, ◌-◌, length}
-use Rattle.vectors.proofs.line.too_long.Given as goal
-
-abbrev pub invariant-loop-i : goal.invariant-loop-i
-invariant-loop-i l = l.i ≤ length l.line
-
-abbrev pub decreases-loop-i : goal.decreases-loop-i
-decreases-loop-i l = length l.line - l.i

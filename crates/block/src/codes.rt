@@ -12,7 +12,7 @@ use code::parts::code_size;
 use std::marker::Model;
 use words::{Dims, MOST_DIMS, Refusal, has_length};
 
-// 32 single codes laid end to end.
+// 32 single codes laid end to end. A type beside `Vector` of code: that one is of floats, this one of codes, and each knows its own size.
 #[derive(Drop)]
 pub struct Codes<'a> {
     dims: Dims<MOST_DIMS>,
@@ -64,10 +64,11 @@ impl<'a> Codes<'a> {
     {
         // Three loops: one over the bytes of the block takes 15,617 ns in place of 3,620 (1,024 dims).
         // Of the factors: byte i % 4 of factor i / 128 of code i % 128 / 4.
-        for i in 0..512 {
-            block[i] = self.byte(i % 128 / 4, 4 * (i / 128) + i % 4);
+        for (i, byte) in block[..512].iter_mut().enumerate() {
+            *byte = self.byte(i % 128 / 4, 4 * (i / 128) + i % 4);
         }
-        for g in 0..(self.dims.get() + 3) / 4 {
+        // By index: tried over chunks_exact_mut: its invariant is then over the borrows that the iterator gave out, and the proof didn't close.
+        for g in 0..self.dims.get().div_ceil(4) {
             for j in 0..16 {
                 block[512 + 16 * g + j] = self.nibble(g, j) + 16 * self.nibble(g, j + 16);
             }

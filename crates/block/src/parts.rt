@@ -9,7 +9,7 @@ use words::{Dims, MOST_DIMS};
 pub fn block_size(dims: Dims<MOST_DIMS>) -> usize
     ensures { (result ≡ block_size dims) × (result ≤ block_size most_dims) }
 {
-    512 + 16 * ((dims.get() + 3) / 4)
+    512 + 16 * dims.get().div_ceil(4)
 }
 
 // The lowest digits of a byte, as many as are left of the dims: the rest are pad bits.

@@ -1,5 +1,5 @@
 // What the records file asks for.
-ghost use Rattle.std.specs.Prelude.{◌≡◌, ◌≤◌, length, IfOk};
+ghost use Rattle.std.specs.Prelude.{◌≡◌, ◌≤◌, IfOk};
 ghost use Rattle.words.specs.Bytes.{num_at, f32_at};
 ghost use Rattle.words.specs.Limits.{most_dims};
 ghost use Rattle.cabinet_job.specs.Job.{most_block};
@@ -19,18 +19,19 @@ pub struct Header {
     pub k: f32,
 }
 
-fn header_of(s: &[u8]) -> Header
-    requires { length s.now ≡ 32 }
-    ensures metric_value { (result.metric ≡ num_at 4 s.now 8) × (result.dims ≡ num_at 4 s.now 12) × (result.n ≡ num_at 4 s.now 16) }
-    ensures dis_v_2_value { (result.dis_v_2 ≡ f32_at s.now 5) × (result.b ≡ f32_at s.now 6) × (result.k ≡ f32_at s.now 7) }
-{
-    Header {
-        metric: words::u32_at(s, 8),
-        dims: words::u32_at(s, 12),
-        n: words::u32_at(s, 16),
-        dis_v_2: words::f32_at(s, 5),
-        b: words::f32_at(s, 6),
-        k: words::f32_at(s, 7),
+impl From<&[u8; 32]> for Header {
+    ghost from_gives = { λ s r. (r.metric ≡ num_at 4 s.now 8) × (r.dims ≡ num_at 4 s.now 12) × (r.n ≡ num_at 4 s.now 16)
+        × (r.dis_v_2 ≡ f32_at s.now 5) × (r.b ≡ f32_at s.now 6) × (r.k ≡ f32_at s.now 7) };
+
+    fn from(s: &[u8; 32]) -> Header {
+        Header {
+            metric: words::u32_at(s, 8),
+            dims: words::u32_at(s, 12),
+            n: words::u32_at(s, 16),
+            dis_v_2: words::f32_at(s, 5),
+            b: words::f32_at(s, 6),
+            k: words::f32_at(s, 7),
+        }
     }
 }
 
@@ -49,6 +50,7 @@ fn size_of(dims: u32) -> Result<usize, Refusal>
 pub struct Job {
     pub header: Header,
     pub size: usize,
+    // No heap: room for the most dims, of which header.dims are filled.
     codes: [u8; MOST_DIMS as usize],
     ghost few_dims: { header.dims ≤ most_dims },
     ghost small_blocks: { size ≤ most_block },
@@ -63,7 +65,7 @@ impl Job {
         if !head.starts_with(b"LKCAB001") {
             return Err(Fault::NoCabinet);
         }
-        let header = header_of(&head);
+        let header = Header::from(&head);
         let size = size_of(header.dims).map_err(Fault::Dims)?;
         let mut codes = [0u8; MOST_DIMS as usize];
         records

@@ -1,5 +1,5 @@
 // The candidates, as the library wants them: lists with a place for each.
-ghost use Rattle.std.specs.Prelude.{◌≡◌, ◌+◌, ◌^◌, ◌<◌, ◌≤◌, length, OnOk, IfOk};
+ghost use Rattle.std.specs.Prelude.{◌≡◌, ◌+◌, ◌^◌, ◌<◌, ◌≤◌, OnOk, IfOk};
 ghost use Rattle.words.specs.Limits.{most_places};
 
 use crate::fault::Fault;
@@ -11,6 +11,7 @@ use words::{MOST_PLACES, Refusal};
 // The records are blocks. lk_walk takes the layout's number, as C does.
 const BLOCKS: u32 = 2;
 
+// Four lists side by side, in fixed memory: the calls lend them so, as C does.
 // Of each candidate: which record of its block it is, its lower bound, its exact distance, and its mark. The first len places are filled.
 #[derive(Drop)]
 pub struct Lists {
@@ -23,10 +24,18 @@ pub struct Lists {
 }
 
 // Number i of s, and 0 where s has no such number.
-fn number_at(s: &[u8], i: u32) -> u32 {
+fn u32_or_0(s: &[u8], i: u32) -> u32 {
     match s.as_chunks::<4>().0.get(i as usize) {
         Some(four) => u32::from_le_bytes(*four),
         None => 0,
+    }
+}
+
+// Float i of s, and 0 where s has no such float.
+fn f32_or_0(s: &[u8], i: u32) -> f32 {
+    match s.as_chunks::<4>().0.get(i as usize) {
+        Some(four) => words::f32_at(four, 0),
+        None => 0.0,
     }
 }
 
@@ -77,8 +86,7 @@ impl Lists {
         // no heap: room for the longest block
         let mut block = [0u8; 18000];
         let block = &mut block[..job.size];
-        while lists.len < n {
-            let first = lists.len;
+        for first in (0..n).step_by(32) {
             let m = (n - first).min(32) as u32;
             records
                 .read_exact(block)
@@ -97,13 +105,13 @@ impl Lists {
     pub fn record(&self, place: u32) -> u64
         ensures { result < 2 ^ 33 }
     {
-        u64::from(place / 32 * 32) + u64::from(number_at(&self.ids, place))
+        u64::from(place / 32 * 32) + u64::from(u32_or_0(&self.ids, place))
     }
 
     // What the reranker says to do next.
     pub fn next(&mut self) -> Result<Answer, Refusal> {
         let n = self.len;
-        // the check doesn't follow a part of a field here, but a part of a slice of it
+        // a part of a slice of the field: a part of the field itself isn't followed
         let distances = &mut self.distances[..];
         let marks = &mut self.marks[..];
         let mut out = [0u8; 16];
@@ -133,8 +141,7 @@ impl Lists {
             &mut count,
         )
         .map_err(|why| Fault::Distance(of, why))?;
-        let bound = number_at(&self.bounds[..4 * n], place);
-        if distance < words::f32_at(&bound.to_le_bytes(), 0) {
+        if distance < f32_or_0(&self.bounds[..4 * n], place) {
             return Err(Fault::Below(of));
         }
         Ok(())

@@ -1,5 +1,5 @@
 // The candidates in order of their exact distances, each of which is read only when it is asked for.
-ghost use Rattle.std.specs.Prelude.{◌≤◌};
+ghost use Rattle.std.specs.Prelude.{◌≤◌, length, IfOk};
 
 use crate::decimal::Decimal;
 use crate::fault::Fault;
@@ -34,12 +34,14 @@ fn supply(file: &impl FileExt, lists: &mut Lists, place: u32) -> Result<(), Faul
     lists.supply(place, words::f32_at(&four, 0))
 }
 
-// Calls the reranker until as many as wanted are given, or all.
+// Calls the reranker until as many as wanted are given, or all: no more candidates than were asked for.
 pub fn rank<F: Seek + FileExt>(
     file: &mut F,
     wanted: usize,
     lists: &mut Lists,
-) -> Result<Ranking, Fault> {
+) -> Result<Ranking, Fault>
+    ensures { IfOk result (λ r. length r.given.items ≤ wanted) }
+{
     let n = lists.len;
     if file.seek(SeekFrom::End(0)).ok() != Some(4 * n as u64) {
         return Err(Fault::Floats);

@@ -11,7 +11,7 @@ ghost use Rattle.code.specs.Parts.{OfDims};
 use std::marker::Model;
 use words::{Dims, MOST_DIMS, Refusal, any_missing, byte_at, has_length, u32_at};
 
-// A vector of dims floats.
+// A vector of dims floats. A type beside `Codes` of block: this one is of floats, that one of codes, and each knows its own size.
 #[derive(Drop)]
 pub struct Vector<'a> {
     dims: Dims<MOST_DIMS>,

@@ -112,6 +112,9 @@ module _ (w n : ℕ) (h : is_width w ≡ true) where
       (λ l. (omega arith, omega arith)) (λ l. (omega arith, omega arith)) (λ l. (omega arith, omega arith)) (λ l. (omega arith, omega arith)) w h
 
   -- how many bytes there are, by whether codes are left
+  pub whole_fits : n / per_byte w ≤ packed_size w n
+  whole_fits = by_width (λ w. n / per_byte w ≤ packed_size w n) (omega arith) (omega arith) (omega arith) (omega arith) w h
+
   pub none_left : n ≤ n / per_byte w * per_byte w → packed_size w n ≡ n / per_byte w
   none_left = by_width (λ w. n ≤ n / per_byte w * per_byte w → packed_size w n ≡ n / per_byte w)
       (λ l. omega arith) (λ l. omega arith) (λ l. omega arith) (λ l. omega arith) w h

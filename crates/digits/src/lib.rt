@@ -38,6 +38,7 @@ impl TryFrom<u32> for Width {
 }
 
 impl Width {
+    // One for each width: the constants and constructors that the paper names.
     pub const LEVELS_1: u32 = 2;
 
     pub const LEVELS_2: u32 = 4;

@@ -1,8 +1,7 @@
 // What other crates of ours call, within what they have tested. The workers have the number of bits as a const parameter:
 // LLVM makes a loop of its own for each width, and one proof serves the four. That it is a width's stands in their contracts, since a
 // const parameter carries no fact.
-ghost use Rattle.std.specs.Prelude.{◌≡◌, ℕ, List, true, false, ◌+◌, ◌/◌, ◌%◌, ◌^◌, ◌≤◌, ◌<◌, length, get_or};
-ghost use Rattle.words.specs.Bytes.{num_at};
+ghost use Rattle.std.specs.Prelude.{◌≡◌, ℕ, List, true, false, ◌+◌, ◌/◌, ◌%◌, ◌≤◌, ◌<◌, length, get_or};
 ghost use Rattle.words.specs.Digits.{join};
 ghost use Rattle.words.specs.Limits.{most_scalar_dims};
 ghost use Rattle.words.specs.Lists.{any_above};
@@ -16,7 +15,7 @@ use words::{Dims, MOST_SCALAR_DIMS, u32_at, u64_at};
 pub fn packed_size(w: Width, dims: Dims<MOST_SCALAR_DIMS>) -> usize
     ensures { (result ≡ packed_size (bits_of w) dims) × (result ≤ most_scalar_dims) }
 {
-    (dims.get() * w.bits() + 7) / 8
+    (dims.get() * w.bits()).div_ceil(8)
 }
 
 // Of codes of BITS bits: how many there are, the greatest, and how many stand in a byte.
@@ -50,7 +49,7 @@ pub fn digit_of<const BITS: u32>(s: &[u8], i: usize) -> u8
     (s[first / 8] >> (first % 8)) & top::<BITS>()
 }
 
-// The same, of a width.
+// The same, of a width. A worker has its own match over the widths, here and in scalar and tables: a closure can't have a const parameter.
 #[tactic(auto, unfolding(crate::specs::Digits::is_width))]
 pub fn digit(w: Width, s: &[u8], i: usize) -> u8
     requires { (i / per_byte (bits_of w) < length s.now) × (i ≤ most_scalar_dims) }
@@ -101,8 +100,8 @@ impl<'a, const BITS: u32> Codes<'a, BITS> {
         let n = self.codes.len();
         let per = per_byte::<BITS>();
         let whole = n / per;
-        for k in 0..whole {
-            out[k] = self.whole(k * per);
+        for (k, byte) in out[..whole].iter_mut().enumerate() {
+            *byte = self.whole(k * per);
         }
         let at = whole * per;
         if at < n {
@@ -144,8 +143,8 @@ impl<'a, const BITS: u32> Codes<'a, BITS> {
         ensures { result ≡ join BITS n (λ j. get_or self.now (at + j) 0) }
     {
         let mut byte = 0u8;
-        for j in 0..n {
-            byte += self.codes[at + j] << (BITS * (j as u32));
+        for (j, code) in self.codes[at..at + n].iter().enumerate() {
+            byte += *code << (BITS * (j as u32));
         }
         byte
     }

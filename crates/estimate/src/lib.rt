@@ -9,7 +9,7 @@ ghost use Rattle.estimate.specs.Calls.{missing_query, code_answer, block_answer}
 use block::parts::block_size;
 use code::parts::code_size;
 use lanes::with_wide_table;
-use planes::{PLANES, Planes};
+use planes::{PLANE_WORDS, Planes};
 pub use ready::Ready;
 use words::{Dims, MOST_DIMS, Metric, Refusal, has_length, put_float};
 
@@ -45,9 +45,10 @@ impl Query {
 }
 
 // The number asked for of a single code, as the four bytes of out.
+// The metric, the dims and the query are judged in the paper's order, with lengths between, so they are no struct.
 #[tactic(auto, unfolding(crate::specs::Calls::code_answer, crate::specs::Calls::code_number, crate::specs::Calls::record_number, crate::specs::Calls::query_number, words::specs::Refusals::or_else, words::specs::Refusals::answer, words::specs::Refusals::after))]
 pub fn code_call(
-    w: Asked,
+    asked: Asked,
     metric: u32,
     dims: u32,
     v: Query,
@@ -55,7 +56,7 @@ pub fn code_call(
     code: &[u8],
     out: &mut [u8],
 ) -> Result<(), Refusal>
-    ensures { (status result, out.new) ≡ code_answer w metric dims v q.now code.now out.old }
+    ensures { (status result, out.new) ≡ code_answer asked metric dims v q.now code.now out.old }
 {
     let dims = Dims::<MOST_DIMS>::try_from(dims)?;
     has_length(q, dims.get())?;
@@ -64,9 +65,9 @@ pub fn code_call(
     v.has_numbers()?;
     let m = Metric::try_from(metric)?;
     let p = Ready::judged(m, v, dims, q)?;
-    let mut room = [0u64; PLANES];
+    let mut room = [0u64; PLANE_WORDS];
     let planes = Planes::binarize(p.codes(), &mut room);
-    let e = p.code_estimate(w, &planes, code);
+    let e = p.code_estimate(asked, &planes, code);
     if e.is_nan() {
         return Err(Refusal::NoEstimate);
     }
@@ -74,10 +75,11 @@ pub fn code_call(
     Ok(())
 }
 
-// The number asked for of each lane of a block, four bytes each.
+// The number asked for of each lane of a block, four bytes each. Its arguments are no struct for the same reason. The two calls stay two:
+// that on a code refuses a NaN, this one writes it.
 #[tactic(auto, unfolding(crate::specs::Calls::block_answer, crate::specs::Calls::record_number, crate::specs::Calls::query_number, words::specs::Refusals::answer, words::specs::Refusals::after))]
 pub fn block_call(
-    w: Asked,
+    asked: Asked,
     metric: u32,
     dims: u32,
     v: Query,
@@ -85,7 +87,7 @@ pub fn block_call(
     block: &[u8],
     out: &mut [u8],
 ) -> Result<(), Refusal>
-    ensures { (status result, out.new) ≡ block_answer w metric dims v q.now block.now out.old }
+    ensures { (status result, out.new) ≡ block_answer asked metric dims v q.now block.now out.old }
 {
     let dims = Dims::<MOST_DIMS>::try_from(dims)?;
     has_length(q, dims.get())?;
@@ -98,7 +100,7 @@ pub fn block_call(
         p.codes(),
         &p,
         out,
-        |p, table, out| p.put_lanes(w, table, block, out),
+        |p, table, out| p.put_lanes(asked, table, block, out),
     );
     Ok(())
 }

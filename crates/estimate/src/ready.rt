@@ -1,11 +1,10 @@
 // A query that has been judged.
-ghost use Rattle.std.specs.Prelude.{◌≡◌, ℕ, ◌≤◌, ◌<◌, pos, length, IfOk};
+ghost use Rattle.std.specs.Prelude.{◌≡◌, ℕ, cond, ◌≤◌, ◌<◌, pos, length, IfOk};
 ghost use Rattle.std.specs.Float.Ieee.{of_int};
 ghost use Rattle.std.specs.Float.{binary32};
 ghost use Rattle.words.specs.Bytes.{f32_at};
 ghost use Rattle.words.specs.Limits.{most_sum};
-ghost use Rattle.words.specs.Refusals.{RefusedIf};
-ghost use Rattle.words.specs.declared.refusal.Refusal.TheVariants.{Missing, BadValue};
+ghost use Rattle.words.specs.Refusals.{status, bad_length};
 ghost use Rattle.code.specs.Code.{code_size};
 ghost use Rattle.block.specs.Block.{block_size};
 ghost use Rattle.sums.specs.Sums.{query_sum};
@@ -79,9 +78,9 @@ impl Numbers {
     // The number asked for of a record with the factors f and the sum s: `process` of the Rust, and `process_lowerbound` with its
     // epsilon of 1.9.
     #[tactic(auto, unfolding(crate::specs::Estimate::estimate, crate::specs::Estimate::lower_bound, crate::specs::Estimate::err, crate::specs::Estimate::rough, crate::specs::Estimate::ppc_term, crate::specs::Estimate::ip_term, crate::specs::Estimate::two_s_minus_q))]
-    fn estimate(self, w: Asked, f: Factors, s: u32) -> f32
+    fn estimate(self, asked: Asked, f: Factors, s: u32) -> f32
         requires { s ≤ most_sum }
-        ensures { result ≡ estimate w self.m self.v f s self.total }
+        ensures { result ≡ estimate asked self.m self.v f s self.total }
     {
         let m = self.m;
         let v = self.v;
@@ -92,7 +91,7 @@ impl Numbers {
             Metric::L2 => f.dis_u_2 + v.dis_v_2 + ppc_term + ip_term,
             Metric::Dot => ppc_term + ip_term,
         };
-        match w {
+        match asked {
             Asked::Rough => rough,
             Asked::LowerBound => rough - 1.9 * halved(m, f.factor_err * self.root),
         }
@@ -100,7 +99,7 @@ impl Numbers {
 }
 
 impl<'a> Ready<'a> {
-    // Refuses a dis_v_2 below 0, and a code above 15.
+    // Refuses another number of codes, and a dis_v_2 below 0 and a code above 15.
     #[tactic(auto, unfolding(crate::specs::Calls::bad_query))]
     pub fn judged(
         m: Metric,
@@ -108,14 +107,13 @@ impl<'a> Ready<'a> {
         dims: Dims<MOST_DIMS>,
         codes: &'a [u8],
     ) -> Result<Ready<'a>, Refusal>
-        requires { length codes.now ≡ dims }
-        ensures refused { RefusedIf (bad_query v codes.now) BadValue result }
+        ensures refused { status result ≡ cond (bad_length codes.now dims) 3 (cond (bad_query v codes.now) 5 0) }
         ensures query { IfOk result (λ p. p ≡ record { m = m; v = v; qs = codes.now }) }
     {
+        let codes = QueryCodes::judged(dims, codes)?;
         if v.dis_v_2 < 0.0 {
             return Err(Refusal::BadValue);
         }
-        let codes = QueryCodes::judged(dims, codes)?;
         let numbers = Numbers {
             m,
             v,
@@ -132,20 +130,20 @@ impl<'a> Ready<'a> {
     }
 
     // The number asked for of a single code, from the query's planes.
-    pub fn code_estimate(&self, w: Asked, planes: &Planes, code: &[u8]) -> f32
+    pub fn code_estimate(&self, asked: Asked, planes: &Planes, code: &[u8]) -> f32
         requires { (planes.now ≡ self.now.qs) × (length code.now ≡ code_size (length self.now.qs)) }
-        ensures { result ≡ code_estimate w self.now.m self.now.v self.now.qs code.now }
+        ensures { result ≡ code_estimate asked self.now.m self.now.v self.now.qs code.now }
     {
         let f = factors_of(code);
         let s = planes.asymmetric_binary_dot_product(words_of(code));
-        self.numbers.estimate(w, f, s)
+        self.numbers.estimate(asked, f, s)
     }
 
     // Those of the 32 lanes of a block from their sums, four bytes each. `float` reads a float of the block by its place.
     fn put_estimates<F: Fn(usize) -> f32>(
         &self,
-        w: Asked,
-        s: &[u32],
+        asked: Asked,
+        s: &[u32; 32],
         block: &[u8],
         float: F,
         out: &mut [u8],
@@ -153,33 +151,34 @@ impl<'a> Ready<'a> {
         requires sums { LaneSums self.now.qs block.now s.now × (length out.old ≡ 128) }
         requires callable { (i : ℕ) → i < 128 → F.pre float i }
         requires reads { (i : ℕ) (x : _) → i < 128 → F.post float i x → x ≡ f32_at block.now i }
-        ensures { out.new ≡ lane_words w self.now.m self.now.v self.now.qs block.now }
+        ensures { out.new ≡ lane_words asked self.now.m self.now.v self.now.qs block.now }
     {
         // A copy, which no store to out can change: so it is read once for all lanes.
         let numbers = self.numbers;
-        for k in 0usize..32 {
+        for (k, sum) in s.iter().enumerate() {
             let f = Factors {
                 dis_u_2: float(k),
                 factor_ppc: float(32 + k),
                 factor_ip: float(64 + k),
                 factor_err: float(96 + k),
             };
-            put_f32(out, 4 * k, numbers.estimate(w, f, s[k]));
+            put_f32(out, 4 * k, numbers.estimate(asked, f, *sum));
         }
     }
 
-    // Those of the 32 lanes of a block, from the query's wide table. The Rust's `fscan_process` and `fscan_process_lowerbound`.
+    // Those of the 32 lanes of a block, from the query's wide table. The Rust's `fscan_process` and `fscan_process_lowerbound`. A block is
+    // a plain part of the caller's records, judged by its length alone; a type for it would hold nothing else. So is out.
     #[tactic(auto, using(crate::proofs::EstimateLaws::number_factor))]
-    pub fn put_lanes(&self, w: Asked, table: &WideTable, block: &[u8], out: &mut [u8])
+    pub fn put_lanes(&self, asked: Asked, table: &WideTable, block: &[u8], out: &mut [u8])
         requires { (table.now ≡ self.now.qs) × (length block.now ≡ block_size (length self.now.qs)) × (length out.old ≡ 128) }
-        ensures { out.new ≡ lane_words w self.now.m self.now.v self.now.qs block.now }
+        ensures { out.new ≡ lane_words asked self.now.m self.now.v self.now.qs block.now }
     {
         let s = table.lane_sums(block);
         if any_nan(block, 128) {
-            self.put_estimates(w, &s, block, |i| f32_at(block, i), out);
+            self.put_estimates(asked, &s, block, |i| f32_at(block, i), out);
         } else {
             // a test less for each factor
-            self.put_estimates(w, &s, block, |i| number_at(block, i), out);
+            self.put_estimates(asked, &s, block, |i| number_at(block, i), out);
         }
     }
 }

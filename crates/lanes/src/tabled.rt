@@ -35,8 +35,8 @@ fn widened(sums: &[u16; 16], part: &[u8; 16]) -> [u16; 16]
 
 // Thirty-two sums with 32 numbers added. It is apart from `widened`: one function over both widths would need a trait that says what `+`
 // and `from` do to numbers of each, and be longer than both.
-fn added(sums: &[u32], part: &[u16]) -> [u32; 32]
-    requires { (length sums.now ≡ 32) × (length part.now ≡ 32) × ((k : ℕ) → k < 32 → get_or sums.now k 0 + get_or part.now k 0 ≤ most_sum) }
+fn added(sums: &[u32; 32], part: &[u16; 32]) -> [u32; 32]
+    requires { (k : ℕ) → k < 32 → get_or sums.now k 0 + get_or part.now k 0 ≤ most_sum }
     ensures { Each 32 (λ k. get_or sums.now k 0 + get_or part.now k 0) result }
 {
     array::from_fn(|k| sums[k] + u32::from(part[k]))
@@ -90,6 +90,7 @@ impl<'a> Tabled<'a> {
     {
         let mut low = [0u8; 16];
         let mut high = [0u8; 16];
+        // by j, which `groups` takes too: a zip of both arrays under `enumerate` would be no plainer
         for j in 0..16 {
             let (a, b) = self.groups::<N>(g, j);
             low[j] = a;
@@ -127,10 +128,9 @@ impl<'a> Tabled<'a> {
     pub(crate) fn lane_sums(&self) -> [u32; 32]
         ensures { LaneSums self.now.codes.now self.now.block.now result }
     {
-        let n = (self.codes.len() + 3) / 4;
+        let n = self.codes.len().div_ceil(4);
         let mut sums = [0u32; 32];
-        for i in 0..(n + STRETCH - 1) / STRETCH {
-            let g = STRETCH * i;
+        for g in (0..n).step_by(STRETCH) {
             sums = added(&sums, &self.stretch(g, STRETCH.min(n - g)));
         }
         sums

@@ -14,6 +14,7 @@ use sums::QueryCodes;
 use words::{MOST_DIMS, byte_at, put_u32};
 
 // How many bytes the wide table of a query has at most.
+// Not by `div_ceil`: a constant's value cannot hold a call.
 const WIDE: usize = 64 * ((MOST_DIMS as usize + 3) / 4);
 
 // The same of queries of few dims, and of a middling number. An array is cleared when it is made, and to clear all of WIDE takes
@@ -51,7 +52,8 @@ impl<'a> WideTable<'a> {
         WideTable { query, bytes: room }
     }
 
-    // The sums of a block's 32 lanes.
+    // The sums of a block's 32 lanes. A block is a plain part of the caller's records, judged by its length alone; a type for it would hold
+    // nothing else. The same holds of out and its 128 bytes.
     pub fn lane_sums(&self, block: &[u8]) -> [u32; 32]
         requires { length block.now ≡ block_size (length self.now) }
         ensures { LaneSums self.now block.now result }
@@ -70,8 +72,8 @@ impl<'a> WideTable<'a> {
         ensures { out.new ≡ words_of 32 (λ k. plain_sum self.now (lane_bit block.now k)) }
     {
         let sums = self.lane_sums(block);
-        for k in 0..32 {
-            put_u32(out, 4 * k, sums[k]);
+        for (k, sum) in sums.iter().enumerate() {
+            put_u32(out, 4 * k, *sum);
         }
     }
 }
@@ -81,7 +83,7 @@ fn fill_wide(codes: &[u8], room: &mut [u8])
     requires { 64 * block_groups (length codes.now) ≤ length room.old }
     ensures { parts.Wide codes.now room.new }
 {
-    let n = 4 * ((codes.len() + 3) / 4);
+    let n = 4 * codes.len().div_ceil(4);
     for d in 0..n {
         room[16 * d..16 * d + 16].fill(byte_at(codes, d));
     }

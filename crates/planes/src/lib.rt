@@ -7,7 +7,7 @@ ghost use Rattle.sums.specs.Calls.{code_sum_answer};
 
 use code::parts::code_size;
 use code::parts::reader::words_of;
-pub use planes::{PLANES, Planes};
+pub use planes::{PLANE_WORDS, Planes};
 use sums::QueryCodes;
 use words::{Dims, MOST_DIMS, Refusal, has_length, put_number};
 
@@ -23,7 +23,7 @@ pub fn code_sum(dims: u32, query: &[u8], code: &[u8], out: &mut [u8]) -> Result<
     has_length(code, code_size(dims))?;
     has_length(out, 4)?;
     let query = QueryCodes::judged(dims, query)?;
-    let mut room = [0u64; PLANES];
+    let mut room = [0u64; PLANE_WORDS];
     let planes = Planes::binarize(&query, &mut room);
     put_number(out, planes.asymmetric_binary_dot_product(words_of(code)));
     Ok(())

@@ -15,8 +15,8 @@ use std::marker::Model;
 use sums::QueryCodes;
 use words::{MOST_DIMS, u32_at, u64_at};
 
-// How many words the planes of a query have at most.
-pub const PLANES: usize = 4 * ((MOST_DIMS as usize + 63) / 64);
+// How many words the planes of a query have at most. Not by `div_ceil`: a constant's value cannot hold a call.
+pub const PLANE_WORDS: usize = 4 * ((MOST_DIMS as usize + 63) / 64);
 
 // A query and its planes, one after the other in room that is lent. Clauses see the query's codes.
 #[derive(Drop)]
@@ -35,7 +35,8 @@ impl<'a> Model for Planes<'a> {
 
 impl<'a> Planes<'a> {
     // The Rust's function of this name.
-    pub fn binarize(query: &'a QueryCodes<'a>, room: &'a mut [u64; PLANES]) -> Planes<'a>
+    pub fn binarize(query: &'a QueryCodes<'a>, room: &'a mut [u64]) -> Planes<'a>
+        requires { 4 * code_words (length query.now) ≤ length room.old }
         ensures { result ≡ query.now }
     {
         fill_planes(query.as_slice(), room);
@@ -48,7 +49,8 @@ impl<'a> Planes<'a> {
         ensures { (result ≡ plain_sum self.now (words_bit words.now)) × (result ≤ most_sum) }
     {
         let t = self.words;
-        let n = (self.query.as_slice().len() + 63) / 64;
+        // not `self.query.len()`: it is as_slice that tells that the codes are judged
+        let n = self.query.as_slice().len().div_ceil(64);
         plane_ones(words, &t[0..n])
             + 2 * plane_ones(words, &t[n..2 * n])
             + 4 * plane_ones(words, &t[2 * n..3 * n])
@@ -57,12 +59,13 @@ impl<'a> Planes<'a> {
 }
 
 // The planes of a query, in a buffer of their size or a longer one. Written out: a loop over p would find its plane by a product of two
-// variables, whose bounds are longer to state than four lines.
+// variables, whose bounds are longer to state than four lines. This and the next three take plain codes, of which `digits` gets a part; what
+// is said of them and of p is all that the shift and the places need.
 fn fill_planes(q: &[u8], t: &mut [u64])
     requires { (length q.now ≤ most_dims) × (4 * code_words (length q.now) ≤ length t.old) }
     ensures { parts.Planes q.now t.new }
 {
-    let n = (q.len() + 63) / 64;
+    let n = q.len().div_ceil(64);
     fill_plane(q, 0, &mut t[0..n]);
     fill_plane(q, 1, &mut t[n..2 * n]);
     fill_plane(q, 2, &mut t[2 * n..3 * n]);
@@ -74,8 +77,8 @@ fn fill_plane(q: &[u8], p: u32, plane: &mut [u64])
     requires { (p < 4) × (length q.now ≤ most_dims) × (length plane.old ≡ code_words (length q.now)) }
     ensures { IsPlane q.now p plane.new }
 {
-    for w in 0..plane.len() {
-        plane[w] = plane_word(q, p, w);
+    for (w, word) in plane.iter_mut().enumerate() {
+        *word = plane_word(q, p, w);
     }
 }
 
@@ -92,21 +95,22 @@ fn plane_word(q: &[u8], p: u32, w: usize) -> u64
 }
 
 // Digit p of each of at most 64 codes, over zeros.
-fn digits(q: &[u8], p: u32, d: &mut [u8])
-    requires { (p < 4) × (length q.now ≤ length d.old) × ((i : ℕ) → get_or d.old i 0 ≡ 0) }
+fn digits(q: &[u8], p: u32, d: &mut [u8; 64])
+    requires { (p < 4) × (length q.now ≤ 64) × ((i : ℕ) → get_or d.old i 0 ≡ 0) }
     ensures { (i : ℕ) → get_or d.new i 0 ≡ bit (get_or q.now i 0) p }
 {
-    for i in 0..q.len() {
-        d[i] = (q[i] >> p) % 2;
+    for (i, code) in q.iter().enumerate() {
+        d[i] = (*code >> p) % 2;
     }
 }
 
 // Sixteen times four digits as one word.
-fn word(d: &[u8]) -> u64
-    requires { (length d.now ≡ 64) × ((i : ℕ) → get_or d.now i 0 < 2) }
+fn word(d: &[u8; 64]) -> u64
+    requires { (i : ℕ) → get_or d.now i 0 < 2 }
     ensures { result ≡ join 1 64 (λ i. get_or d.now i 0) }
 {
     let mut r = 0u64;
+    // by k, which the shift needs also where the digits come in chunks of four
     for k in 0..16 {
         r += nibble(d, k) << (4 * k);
     }
@@ -115,8 +119,8 @@ fn word(d: &[u8]) -> u64
 
 // Four digits that stand in a byte each, as one number. The product has digit j of byte k at 8k + 7j, no two at one place, and from
 // place 21 on the four whose j and k add up to 3.
-fn nibble(d: &[u8], k: usize) -> u64
-    requires { (k < 16) × (length d.now ≡ 64) × ((i : ℕ) → get_or d.now i 0 < 2) }
+fn nibble(d: &[u8; 64], k: usize) -> u64
+    requires { (k < 16) × ((i : ℕ) → get_or d.now i 0 < 2) }
     ensures { (result ≡ join 1 4 (λ j. get_or d.now (4 * k + j) 0)) × (result < 16) }
 {
     u64::from(u32_at(d, 4 * k)) * 0x20_4081 / 0x20_0000 % 16
@@ -128,8 +132,8 @@ fn plane_ones(words: &[u8], plane: &[u64]) -> u32
     ensures { (result ≡ sum_to (length plane.now) (λ w. ones (bit_and (num_at 8 words.now (8 * w)) (get_or plane.now w 0)))) × (result ≤ 64 * length plane.now) }
 {
     let mut r = 0u32;
-    for w in 0..plane.len() {
-        r += shared(u64_at(words, 8 * w), plane[w]);
+    for (w, p) in plane.iter().enumerate() {
+        r += shared(u64_at(words, 8 * w), *p);
     }
     r
 }

@@ -1,8 +1,8 @@
 -- What the workers of module 9 promise each other: what a scan of the lists means for a call. No public promise cites this file.
-use Rattle.std.specs.Prelude.{◌≡◌, ◌<◌, ◌⊎◌, List, ℕ, length, Ok, Err}
+use Rattle.std.specs.Prelude.{◌≡◌, ◌<◌, List, ℕ, cond, ltb, length, Ok, Err, IfOk}
 use Rattle.std.specs.declared.result.Result.{Result}
 use Rattle.words.specs.Bytes.{num_at, f32_at}
-use Rattle.words.specs.Refusals.{number_of}
+use Rattle.words.specs.Refusals.{number_of, status, bad_length}
 use Rattle.words.specs.declared.refusal.Refusal.{Refusal}
 use Rattle.scan.specs.Lists.{Places, Sized}
 use Rattle.scan.specs.Parts.{waiting_key, asked_key, FirstPlace, ScanTo}
@@ -24,10 +24,9 @@ event_of (Ask p) = asked p
 event_of (Give p x) = gave p x
 event_of Done = done
 
--- the answer that next's bytes tell; there is none where they are not 16, or their number is no answer's
+-- the answer that next's bytes tell: BAD_LENGTH where they are not 16, BAD_VALUE where their number is no answer's
 abbrev pub Told : List ℕ → Result Answer Refusal → Type 0
-Told out (Ok a) = told out ≡ event_of a
-Told out (Err f) = (length out ≡ 16 → ⊥) ⊎ (2 < num_at 4 out 0)
+Told out r = (status r ≡ cond (bad_length out 16) 3 (cond (ltb 2 (num_at 4 out 0)) 5 0)) × IfOk r (λ a. told out ≡ event_of a)
 
 -- a Give is of one of n places
 abbrev pub Inside : ℕ → Answer → Type 0

@@ -4,7 +4,7 @@
 use anyhow::Result;
 use rerank::Answer;
 
-// The lists of a caller, and the distances that it supplies.
+// The lists of a caller, and the distances that it supplies. BYTES is 4 PLACES, which a const argument can't say.
 #[derive(Drop)]
 struct Caller<const PLACES: usize, const BYTES: usize> {
     estimates: [u8; BYTES],

@@ -27,7 +27,7 @@ pub fn scalar_encode<'a>(
     let dims = Dims::<MOST_SCALAR_DIMS>::try_from(dims)?;
     let w = Width::try_from(bits)?;
     has_length(code, packed_size(w, dims))?;
-    let v = Vectors::judge(dims, vector, min, max)?;
+    let v = Vectors::judged(dims, vector, min, max)?;
     parts::code::encode(w, v, code);
     Ok(())
 }

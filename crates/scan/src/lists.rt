@@ -8,7 +8,7 @@ ghost use Rattle.scan.specs.Lists.{places};
 use std::marker::Model;
 use words::{Refusal, has_lists};
 
-// Estimates, distances and marks of one number of places, at most 4,096. Clauses see the three lists.
+// Estimates, distances and marks of one number of places, at most 4,096 (the C interface lends them apart). Clauses see the three lists.
 #[derive(Drop)]
 pub struct Lists<'a> {
     pub(crate) estimates: &'a [u8],

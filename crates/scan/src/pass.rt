@@ -1,14 +1,14 @@
 // The pass over the lists, and the search for a place that it found the key of.
 ghost use Rattle.std.specs.Prelude.{◌≡◌, cond, ◌+◌, ◌*◌, ◌<◌, ◌≤◌, min, eqb, ltb, length, Some, None, IfSome};
-ghost use Rattle.words.specs.Limits.{most_places, most_mark};
+ghost use Rattle.words.specs.Limits.{most_places};
 ghost use Rattle.scan.specs.Lists.{Sized};
-ghost use Rattle.scan.specs.Parts.{key_of, key_if, key_at, waiting_key, asked_key, nan_one, lacks, above_most, not_zero};
-ghost use Rattle.scan.specs.Parts.{KeysTo, CountsOf, LeastOf, ScanTo, FirstAt, stretch_places, no_key};
+ghost use Rattle.scan.specs.Parts.{key_of, key_if, key_at, waiting_key, asked_key, nan_one, lacks};
+ghost use Rattle.scan.specs.Parts.{KeysTo, CountsOf, ScanTo, FirstAt, stretch_places, no_key};
 
 use crate::lists::Lists;
 
 // Stands for no key in the pass: it is above every key of a number. With an Option for each key the loop over the places takes 2.5 times
-// as long (rustc -O, 4,096 places).
+// as long (4,096 places, the loop alone, in Rust).
 const NO_KEY: u32 = 0xFFFF_FFFF;
 
 // The places of a stretch: so few that their counts fit a byte.
@@ -33,7 +33,7 @@ fn key_if(marked: bool, u: u32) -> u32
     if marked { key(u) } else { NO_KEY }
 }
 
-// 1 where the place has the mark and the bits are a NaN's, else 0.
+// 1 where the place has the mark and the bits are a NaN's, else 0. A number, as words::nan_one gives: it is added up without a branch.
 fn nan_if(marked: bool, u: u32) -> u32
     ensures { (result ≡ cond marked (nan_one u) 0) × (result ≤ 1) }
 {
@@ -70,7 +70,7 @@ impl Keys {
 }
 
 // How many marks are above the greatest, and how many are not 0. In bytes: so the loop that counts them goes by vectors of 16.
-#[derive(Drop)]
+#[derive(Clone, Copy)]
 struct Counts {
     bad: u8,
     count: u8,
@@ -131,7 +131,7 @@ impl Scan {
 }
 
 impl<'a> Lists<'a> {
-    // The marks from `from` up to `to`, which are at most a stretch.
+    // The marks from `from` up to `to`, which are at most a stretch. By index, as in add_keys, so that the two loops of a stretch read alike.
     fn count_marks(&self, from: usize, to: usize) -> Counts
         requires { (from ≤ to) × (to ≤ from + stretch_places) × (to ≤ length self.now.marks) }
         ensures { CountsOf self.now.marks from to result.bad result.count }
@@ -146,7 +146,7 @@ impl<'a> Lists<'a> {
         Counts { bad, count }
     }
 
-    // The keys with those of the places from `from` up to `to`.
+    // The keys with those of the places from `from` up to `to`. The caller lends three lists side by side: a zip of three chunks is no plainer.
     fn add_keys(&self, start: Keys, from: usize, to: usize) -> Keys
         requires from_le_to { (from ≤ to) × (to ≤ length self.now.marks) }
         requires keys_to { KeysTo self.now from start }

@@ -1,14 +1,13 @@
 // The codes of a query, judged.
-ghost use Rattle.std.specs.Prelude.{◌≡◌, ℕ, ◌≤◌, ◌<◌, List, length, IfOk};
+ghost use Rattle.std.specs.Prelude.{◌≡◌, ℕ, ◌≤◌, ◌<◌, List, length, cond, IfOk};
 ghost use Rattle.words.specs.Limits.{most_dims, most_sum, top_code};
 ghost use Rattle.words.specs.Lists.{any_above};
-ghost use Rattle.words.specs.Refusals.{RefusedIf};
-ghost use Rattle.words.specs.declared.refusal.Refusal.TheVariants.{BadValue};
+ghost use Rattle.words.specs.Refusals.{status, bad_length};
 ghost use Rattle.sums.specs.Sums.{query_sum};
 ghost use Rattle.sums.specs.Sums as sums;
 
 use std::marker::Model;
-use words::{Dims, MOST_DIMS, Refusal, TOP_CODE};
+use words::{Dims, MOST_DIMS, Refusal, TOP_CODE, has_length};
 
 // A query code for each of the dims, none above 15. Clauses see the list of them.
 #[derive(Drop)]
@@ -26,15 +25,13 @@ impl<'a> Model for QueryCodes<'a> {
 }
 
 impl<'a> QueryCodes<'a> {
-    // Refuses a code above 15.
+    // Refuses another number of codes, and a code above 15.
     #[tactic(auto, using(crate::proofs::CallLaws::query))]
     pub fn judged(dims: Dims<MOST_DIMS>, codes: &'a [u8]) -> Result<QueryCodes<'a>, Refusal>
-        requires { length codes.now ≡ dims }
-        ensures refused { RefusedIf (any_above top_code codes.now) BadValue result }
+        ensures refused { status result ≡ cond (bad_length codes.now dims) 3 (cond (any_above top_code codes.now) 5 0) }
         ensures codes { IfOk result (λ q. q ≡ codes.now) }
     {
-        // for the bounds of dims
-        let _ = dims.get();
+        has_length(codes, dims.get())?;
         if words::any_above(TOP_CODE, codes) {
             return Err(Refusal::BadValue);
         }

@@ -28,8 +28,8 @@ pub fn scalar_table<'a>(
 {
     let dims = Dims::<MOST_SCALAR_DIMS>::try_from(dims)?;
     let w = Width::try_from(bits)?;
-    has_length(table, table_size(w, dims))?;
-    let v = Vectors::judge(dims, vector, min, max)?;
+    has_length(table, table_size(w, dims.get()))?;
+    let v = Vectors::judged(dims, vector, min, max)?;
     let m = Metric::try_from(metric)?;
     parts::table::fill(m, w, v, table);
     Ok(())
@@ -49,11 +49,11 @@ pub fn scalar_distance(
 {
     let dims = Dims::<MOST_SCALAR_DIMS>::try_from(dims)?;
     let w = Width::try_from(bits)?;
-    has_length(table, table_size(w, dims))?;
+    has_length(table, table_size(w, dims.get()))?;
     has_length(code, packed_size(w, dims))?;
     has_length(out, 4)?;
     let m = Metric::try_from(metric)?;
-    let s = parts::distance::sum(w, dims, table, code);
+    let s = parts::distance::sum(w, dims.get(), table, code);
     if s.is_nan() {
         return Err(Refusal::NoEstimate);
     }

@@ -28,7 +28,8 @@ pub enum Call {
     RerankSupply,
 }
 
-// The calls by their names in the header, without lk_, in its order.
+// The calls by their names in the header, without lk_, in its order. One table, read in both ways: a TryFrom and a Display beside each other
+// would say the 23 names twice.
 pub const CALLS: [(&str, Call); 23] = [
     ("digits_size", Call::DigitsSize),
     ("code_size", Call::CodeSize),

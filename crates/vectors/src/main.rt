@@ -22,7 +22,7 @@ mod line;
 
 const MOST_TEXT: usize = 262_144;
 
-// The bytes that a path may have, with one to spare.
+// The bytes that a path may have, with one to spare: an argument is read into a buffer that is lent.
 const MOST_PATH: usize = 4096;
 
 // How many lines have a call, and how many of them agree.

@@ -39,7 +39,7 @@ impl Layout {
     {
         match self {
             Layout::Single => n * code_size(dims),
-            Layout::Blocks => (n + 31) / 32 * block_size(dims),
+            Layout::Blocks => n.div_ceil(32) * block_size(dims),
         }
     }
 }

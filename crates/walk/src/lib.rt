@@ -22,13 +22,15 @@ fn put_ids(ids: &mut [u8], start: u32, end: u32)
     requires { 4 * (end - start) ≤ length ids.old }
     ensures { ids.new ≡ id_words start end ++ drop (4 * (end - start)) ids.old }
 {
+    // tried: `(start..end).enumerate()`; the proof that the place and the id go by the number of turns did not close
     for id in start..end {
         put_u32(ids, 4 * (id - start) as usize, id);
     }
 }
 
 // The ids of a range with their lower bounds, marks 0, and the count. The bounds go to a buffer of the walk's own, so that
-// nothing is written before all of them are known to be numbers.
+// nothing is written before all of them are known to be numbers. The metric, the dims and the query are judged in the paper's order, with
+// lengths between, so they are no struct.
 #[tactic(auto, using(crate::proofs::WalkLaws::put_front), unfolding(crate::specs::Walk::walk_answer, crate::specs::Walk::walk_number, crate::specs::Walk::bad_lengths, crate::specs::Walk::bad_records, crate::specs::Walk::bad_outs, crate::specs::Walk::out_of_range, crate::specs::Walk::range_number, estimate::specs::Calls::query_number, words::specs::Refusals::or_else, words::specs::Refusals::after, words::specs::Refusals::bad_length))]
 pub fn walk(
     metric: u32,

@@ -13,7 +13,7 @@ use block::parts::block_size;
 use code::parts::code_size;
 use estimate::{Asked, Ready};
 use lanes::{WideTable, with_wide_table};
-use planes::{PLANES, Planes};
+use planes::{PLANE_WORDS, Planes};
 use words::{MOST_PLACES, Refusal, any_nan, put_f32};
 
 // Room for the bounds of every lane of the blocks that the most ids reach into.
@@ -34,7 +34,7 @@ pub struct Wanted<'a> {
     ghost places: { c ≤ most_places },
 }
 
-// Record i of records of size bytes each. The loops below put bounds by their places too, which chunks would not tell.
+// Record i of records of size bytes each. By its place: chunks would take skip, take and enumerate, which is no plainer.
 fn record_at(records: &[u8], size: usize, i: usize) -> &[u8]
     requires { size * i + size ≤ length records.now }
     ensures { (result.now ≡ record_of size records.now i) × (length result.now ≡ size) }
@@ -52,7 +52,7 @@ impl<'a> Wanted<'a> {
     {
         let q = self.query.codes();
         let size = code_size(q.dims());
-        let mut room = [0u64; PLANES];
+        let mut room = [0u64; PLANE_WORDS];
         let planes = Planes::binarize(q, &mut room);
         for i in 0..self.c {
             let code = record_at(self.records, size, self.start + i);
@@ -70,7 +70,7 @@ impl<'a> Wanted<'a> {
             ≡ bound_words Layout.Blocks w.query.m w.query.v w.query.qs w.records.now (32 * (w.start / 32)) (32 * count) }
     {
         let size = block_size(self.query.codes().dims());
-        let count = (self.start % 32 + self.c + 31) / 32;
+        let count = (self.start % 32 + self.c).div_ceil(32);
         for b in 0..count {
             let block = record_at(self.records, size, self.start / 32 + b);
             let at = 128 * b;

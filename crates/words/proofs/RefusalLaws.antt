@@ -5,7 +5,7 @@ use lib.ListN.{length}
 use borrow.Author.Tests.{ltb-false, eqb-true, eq-eqb, ne_eqb, not-false}
 use mathlib.Core.Bool.{Bool, true, false, not, ◌||◌, cond}
 use mathlib.Core.List.{List}
-use mathlib.Core.Path.{◌≡◌, refl, sym}
+use mathlib.Core.Path.{◌≡◌, refl}
 use native.Mathlib.Omega.{arith}
 use Rattle.words.specs.Limits.{most_places}
 use Rattle.words.specs.Refusals.{after, answer, or_else, bad_dims, bad_length, bad_lists}
@@ -86,8 +86,3 @@ accepts n old new now e f = rw (e, f) refl
 pub refuses : (n m : ℕ) (old new : List ℕ) → n ≡ suc m → (suc m, old) ≡ answer n old new
 unfolding answer after
 refuses n m old new e = rw e refl
-
--- a refusal that an earlier test gave
-pub refuses_as : (n r : ℕ) (old new : List ℕ) → r ≡ n → (r ≡ 0 → ⊥) → (r, old) ≡ answer n old new
-unfolding answer
-refuses_as n r old new e h = rw (sym e, after_refused r old new h) refl

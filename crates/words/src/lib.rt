@@ -1,14 +1,13 @@
 // What every module speaks: numbers and floats in little-endian bytes, the refusals, the limits, judged dims, the metric.
 #![tactic(auto)]
 
-ghost use Rattle.std.specs.Prelude.{◌≡◌, ◌+◌, ◌*◌, ◌%◌, ◌^◌, ◌≤◌, ◌<◌, max, leb, eqb, length, get_or, set, false, not, ◌||◌, cond};
+ghost use Rattle.std.specs.Prelude.{◌≡◌, ◌+◌, ◌*◌, ◌%◌, ◌^◌, ◌≤◌, ◌<◌, leb, length, get_or, false, cond};
 ghost use Rattle.std.specs.Float.Ieee.{is_nan, nan_bits};
 ghost use Rattle.std.specs.Float.{binary32};
 ghost use Rattle.std.proofs.lemmas.List.Edits.{sets};
 ghost use Rattle.words.specs.Bytes.{num_at, bytes_of, f32_at, float_bytes};
 ghost use Rattle.words.specs.Floats.{missing, any_nan};
 ghost use Rattle.words.specs.Lists.{any_below, any_above};
-ghost use Rattle.words.specs.Refusals.{answer, bad_dims, bad_length, bad_lists, bad_form};
 
 pub use dims::Dims;
 pub use metric::Metric;
@@ -65,7 +64,8 @@ pub fn u64_at(s: &[u8], at: usize) -> u64
     requires { at + 8 ≤ length s.now }
     ensures { result ≡ num_at 8 s.now at }
 {
-    // u64::from_le_bytes adds eight bytes, which LLVM doesn't make one load where the sum is used twice
+    // By two halves: over u64::from_le_bytes, which adds eight bytes, the loop of digits that packs codes of one bit goes by no vectors and
+    // takes 147 ns in place of 76 (1,024 codes, the loop alone, in C).
     let lo = u32_at(s, at);
     let hi = u32_at(s, at + 4);
     u64::from(lo) + u64::from(hi) * 0x1_0000_0000
@@ -91,7 +91,9 @@ pub fn number_at(s: &[u8], i: usize) -> f32
     f32::from_bits(u32_at(s, 4 * i))
 }
 
-// ---- tests over a buffer. Their loops don't leave early: so they go by vectors.
+// ---- tests over a buffer. Their loops don't leave early, and add up a number for each float and no truth: so they go by vectors. They take
+// the first n floats of a buffer, which may be longer (the factors of a block): the facts of n stand in three contracts, where a type would
+// serve these three alone. They go by place, as their definitions do.
 
 // 1 where the bits n, their sign dropped, are at least `least`, else 0. A mask in place of the quotient would split the load.
 fn reaches(least: u32, n: u32) -> u32
@@ -157,7 +159,7 @@ pub fn put_u32(out: &mut [u8], at: usize, x: u32)
     out[at..at + 4].copy_from_slice(&x.to_le_bytes());
 }
 
-// The eight bytes of x, lowest first, from place at on.
+// The eight bytes of x, lowest first, from place at on. As put_u32: one function over both sizes would be longer than this line of it.
 pub fn put_u64(out: &mut [u8], at: usize, x: u64)
     requires { at + 8 ≤ length out.old }
     ensures { out.new ≡ sets out.old at (bytes_of 8 x) }

@@ -1,5 +1,6 @@
 // The reader of a single code. `Code` keeps the four factors and the word bytes, which stay a part of the caller's buffer.
 // Callers take what they need by `factors_of` and `words_of`, whose parameters are plain.
+// That a code has 16 bytes stands in each contract: the docs name these functions, so their parameters stay plain.
 ghost use Rattle.std.specs.Prelude.{◌≡◌, ◌≤◌, length};
 ghost use Rattle.code.specs.Reader.{factors_at, kept_factors, words_at};
 

@@ -1,5 +1,6 @@
 // The code of a vector (`encode` of scalar.rs), within what the calls have tested. The number of bits is a const parameter:
 // LLVM makes a loop of its own for each width, by vectors, and one proof serves the four.
+// A const parameter carries no fact, so that BITS is a width's stands in the contracts.
 ghost use Rattle.std.specs.Prelude.{◌≡◌, true, ◌+◌, ◌≤◌, ◌<◌, length};
 ghost use Rattle.words.specs.Digits.{join};
 ghost use Rattle.words.specs.Limits.{most_scalar_dims};
@@ -39,8 +40,9 @@ fn code_at(top: u8, v: &Vectors, i: usize) -> u8
     code_of((x - lo) / del_of(top, lo, hi), top)
 }
 
-// The codes of n dimensions from at on, in one byte. This and encode_bits have the loops of digits once more: one loop over closures
-// is no plainer, since each closure has to state again what the function that it calls asks for.
+// The codes of n dimensions from at on, in one byte. This and encode_bits have the loops of digits once more: one loop over
+// closures is longer, since the closures for a whole byte and for the last one each state again the place, the count and the result of
+// the function that they call, and the shared loop states them a third time.
 fn join_at<const BITS: u32>(n: usize, v: &Vectors, at: usize) -> u8
     requires { (is_width BITS ≡ true) × (n ≤ per_byte BITS) × (at + n ≤ v.now.dims) × (v.now.dims ≤ most_scalar_dims) }
     ensures { result ≡ join BITS n (λ j. dimension_code (d.top BITS) v.now.vector v.now.lo v.now.hi (at + j)) }
@@ -59,8 +61,8 @@ fn encode_bits<const BITS: u32>(v: Vectors, out: &mut [u8])
     let dims = v.dims();
     let per = per_byte::<BITS>();
     let whole = dims / per;
-    for k in 0..whole {
-        out[k] = join_at::<BITS>(per, &v, k * per);
+    for (k, byte) in out[..whole].iter_mut().enumerate() {
+        *byte = join_at::<BITS>(per, &v, k * per);
     }
     let at = whole * per;
     if at < dims {

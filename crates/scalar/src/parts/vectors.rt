@@ -30,7 +30,7 @@ impl<'a> Model for Vectors<'a> {
 impl<'a> Vectors<'a> {
     // Refuses what is of another length, then a NaN or an infinity, then a min above its max.
     #[tactic(auto, unfolding(crate::specs::Calls::vectors_number, crate::specs::Calls::bad_vectors, crate::specs::Calls::any_missing))]
-    pub fn judge(
+    pub fn judged(
         dims: Dims<MOST_SCALAR_DIMS>,
         vector: &'a [u8],
         lo: &'a [u8],
@@ -77,6 +77,7 @@ impl<'a> Vectors<'a> {
 }
 
 // Whether min is above max somewhere. It counts and doesn't leave early, so that it goes by vectors.
+// By index: lo and hi stand side by side, and both are read as floats.
 fn above_max(n: usize, lo: &[u8], hi: &[u8]) -> bool
     requires { (n ≤ most_scalar_dims) × (length lo.now ≡ 4 * n) × (length hi.now ≡ 4 * n)
         × (missing n lo.now ≡ false) × (missing n hi.now ≡ false) }

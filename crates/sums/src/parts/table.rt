@@ -1,13 +1,12 @@
 // The sums of a block's lanes by a table of 16 sums for each group of four dimensions: the Rust's `gen` and `fast_scan_b4`. The calls
 // use the form of `lanes`; this one serves any table of bytes, 16 a group.
-ghost use Rattle.std.specs.Prelude.{◌≡◌, ℕ, ◌+◌, ◌*◌, ◌/◌, ◌%◌, ◌<◌, ◌≤◌, length};
+ghost use Rattle.std.specs.Prelude.{◌≡◌, ◌+◌, ◌*◌, ◌/◌, ◌%◌, ◌<◌, ◌≤◌, length};
 ghost use Rattle.words.specs.Digits.{bit};
 ghost use Rattle.words.specs.Limits.{most_dims};
 ghost use Rattle.block.specs.Block.{block_groups, block_size};
-ghost use Rattle.sums.specs.Sums.{group_sum, groups_nibble, table_count};
+ghost use Rattle.sums.specs.Sums.{group_sum, groups_nibble, table_count, QueryCodes};
 ghost use Rattle.sums.specs.Parts.{Table, Scanned, LaneSums};
 
-use crate::QueryCodes;
 use block::parts::half;
 use std::array;
 use words::byte_at;
@@ -22,26 +21,26 @@ fn digit(m: u8, b: usize) -> u8
 }
 
 // Entry m of group g: the sum of the group's query codes at the set digits of m.
-fn entry(q: &QueryCodes, g: usize, m: u8) -> u8
-    requires { g < block_groups most_dims }
+fn entry(q: &[u8], g: usize, m: u8) -> u8
+    requires { QueryCodes q.now × (g < block_groups most_dims) }
     ensures { result ≡ group_sum q.now g m }
 {
-    let codes = q.as_slice();
     let mut sum = 0u8;
+    // by b: a code past the last dimension counts 0, which an iterator over the codes would have to add
     for b in 0..4 {
-        sum += byte_at(codes, 4 * g + b) * digit(m, b);
+        sum += byte_at(q, 4 * g + b) * digit(m, b);
     }
     sum
 }
 
 // The table of a query, in a buffer of its size or a longer one: entry m of group g at 16g + m. The Rust's `gen`.
-pub fn gen_table(q: &QueryCodes, t: &mut [u8])
-    requires { 16 * block_groups (length q.now) ≤ length t.old }
+pub fn gen_table(q: &[u8], t: &mut [u8])
+    requires { QueryCodes q.now × (16 * block_groups (length q.now) ≤ length t.old) }
     ensures { Table q.now t.new }
 {
     let n = 16 * q.len().div_ceil(4);
-    for i in 0..n {
-        t[i] = entry(q, i / 16, (i % 16) as u8);
+    for (i, byte) in t[..n].iter_mut().enumerate() {
+        *byte = entry(q, i / 16, (i % 16) as u8);
     }
 }
 
@@ -51,23 +50,24 @@ fn nibble(groups: &[u8], k: usize, g: usize) -> usize
     requires { (k < 32) × (16 * g + 16 ≤ length groups.now) }
     ensures { (result ≡ groups_nibble groups.now k g) × (result < 16) }
 {
-    half(groups[16 * g + k % 16], k / 16) as usize
+    usize::from(half(groups[16 * g + k % 16], k / 16))
 }
 
-// What lane k picks in n groups of a table, added.
+// What lane k picks in n groups of a table, added. It has the parameters of its caller.
 #[tactic(auto, using(crate::proofs::TableLaws::count_none, crate::proofs::TableLaws::count_more))]
 fn scan_lane(t: &[u8], groups: &[u8], n: usize, k: usize) -> u32
     requires { (k < 32) × (n ≤ block_groups most_dims) × (16 * n ≤ length t.now) × (length groups.now ≡ 16 * n) }
     ensures { result ≡ table_count t.now (groups_nibble groups.now k) n }
 {
     let mut sum = 0u32;
+    // by g: a lane picks one byte of the 16 of a group in two lists
     for g in 0..n {
         sum += u32::from(t[16 * g + nibble(groups, k, g)]);
     }
     sum
 }
 
-// What the lanes pick in n groups of a table, added. The Rust's `fast_scan_b4`.
+// What the lanes pick in n groups of a table, added. The Rust's `fast_scan_b4`, whose parameters it has: n beside groups of 16 n bytes.
 pub fn fast_scan_b4(t: &[u8], groups: &[u8], n: usize) -> [u32; 32]
     requires { (n ≤ block_groups most_dims) × (16 * n ≤ length t.now) × (length groups.now ≡ 16 * n) }
     ensures { Scanned t.now groups.now n result }
@@ -76,10 +76,10 @@ pub fn fast_scan_b4(t: &[u8], groups: &[u8], n: usize) -> [u32; 32]
 }
 
 // The sums of the 32 lanes of a block, by the table.
-pub fn table_sums(q: &QueryCodes, t: &mut [u8], block: &[u8]) -> [u32; 32]
-    requires { (16 * block_groups (length q.now) ≤ length t.old) × (length block.now ≡ block_size (length q.now)) }
+pub fn table_sums(q: &[u8], t: &mut [u8], block: &[u8]) -> [u32; 32]
+    requires { QueryCodes q.now × (16 * block_groups (length q.now) ≤ length t.old) × (length block.now ≡ block_size (length q.now)) }
     ensures { LaneSums q.now block.now result }
 {
     gen_table(q, t);
-    fast_scan_b4(t, &block[512..], q.as_slice().len().div_ceil(4))
+    fast_scan_b4(t, &block[512..], q.len().div_ceil(4))
 }

@@ -1,7 +1,9 @@
 // A query's table (`preprocess` of scalar.rs), within what the calls have tested.
+// A const parameter carries no fact, so that BITS is a width's stands in the contracts.
 ghost use Rattle.std.specs.Prelude.{◌≡◌, true, ◌+◌, ◌*◌, ◌≤◌, length};
 ghost use Rattle.std.proofs.lemmas.List.Edits.{sets};
 ghost use Rattle.words.specs.Bytes.{floats_of};
+ghost use Rattle.words.specs.Limits.{most_scalar_dims};
 ghost use Rattle.digits.specs.Digits.{bits_of, is_width, levels};
 ghost use Rattle.scalar.specs.Table.{apart, entry_of, table_bytes, table_size};
 
@@ -9,13 +11,14 @@ use digits::Width;
 use digits::parts::{levels, top};
 use scalar::parts::code::del_of;
 use scalar::parts::vectors::Vectors;
-use words::{Dims, MOST_SCALAR_DIMS, Metric};
+use words::Metric;
 
-// How many bytes a table takes.
-pub fn table_size(w: Width, dims: Dims<MOST_SCALAR_DIMS>) -> usize
+// How many bytes a table takes. The dims of this and of `sum` are a plain number: they may be 0, which Dims excludes.
+pub fn table_size(w: Width, dims: usize) -> usize
+    requires { dims ≤ most_scalar_dims }
     ensures { result ≡ table_size (bits_of w) dims }
 {
-    4 * (dims.get() << w.bits())
+    4 * (dims << w.bits())
 }
 
 // What two numbers add to a distance.
@@ -39,7 +42,7 @@ fn put_row(m: Metric, n: u16, x: f32, lo: f32, del: f32, out: &mut [u8], at: usi
     }
 }
 
-// The rows of all dimensions.
+// The rows of all dimensions. By place: over chunks_exact_mut the invariant is over the borrows that the iterator gave out (tried in block).
 fn fill_rows<const BITS: u32>(m: Metric, v: Vectors, out: &mut [u8])
     requires { (is_width BITS ≡ true) × (length out.old ≡ table_size BITS v.dims) }
     ensures { out.new ≡ table_bytes m BITS v.entry.dims v.entry.vector v.entry.lo v.entry.hi }

@@ -13,7 +13,7 @@ pub digits-requires : goal.digits-requires
 digits-requires c = (c.requires.0, search rules, zeros_at 64)
 
 pub word-requires : goal.word-requires
-word-requires c = (search rules, λ i. subst (λ (x : ℕ). x < 2) (sym (c.digits.ensures i)) (bit-lt _ _))
+word-requires c = λ i. subst (λ (x : ℕ). x < 2) (sym (c.digits.ensures i)) (bit-lt _ _)
 
 pub returns : goal.returns
 unfolding plane_word

@@ -18,14 +18,14 @@ step : (c : After-nibble) → let l = c.loop-k in
 unfolding nibble_of
 step c =
     let l = c.loop-k in
-    digit_more 4 64 l.k (4 * l.k) l.r _ (nibble_of c) (λ i. bits_lt 4 _ (λ j. c.requires.1 (4 * i + j))) (omega arith) refl l.invariant
+    digit_more 4 64 l.k (4 * l.k) l.r _ (nibble_of c) (λ i. bits_lt 4 _ (λ j. c.requires (4 * i + j))) (omega arith) refl l.invariant
     c.nibble.ensures.0
 
 pub loop-k-init : goal.loop-k-init
 loop-k-init c = sym (join-none 4 _)
 
 pub nibble-requires : goal.nibble-requires
-nibble-requires c = (omega arith, c.requires.0, c.requires.1)
+nibble-requires c = (omega arith, c.requires)
 
 pub overflow_add-r : goal.overflow_add-r
 overflow_add-r c = record { fits = (step c).1 }

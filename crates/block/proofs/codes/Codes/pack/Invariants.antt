@@ -13,7 +13,7 @@ abbrev pub Packed : OfDims → ℕ → List ℕ → Type 0
 Packed s n block = (length block ≡ block_size s.dims) × ((i : ℕ) → i < n → get_or block i 0 ≡ packed_block_byte s.dims s.bytes i)
 
 abbrev pub invariant-loop-i : goal.invariant-loop-i
-invariant-loop-i l = Packed l.self l.i l.block
+invariant-loop-i l = (length l.byte-items ≡ 512) × ((j : ℕ) → j < l.i → get_or l.byte-items j 0 ≡ packed_block_byte l.self.dims l.self.bytes j)
 
 abbrev pub invariant-loop-g : goal.invariant-loop-g
 invariant-loop-g l = Packed l.self (512 + 16 * l.g) l.block

@@ -1,9 +1,7 @@
--- Each block brings candidates, no more than records.
-use Rattle.std.proofs.Common.{◌≤◌, ◌-◌}
+-- Each record before this block is a candidate.
+use Rattle.std.proofs.Common.{◌≡◌}
+use Rattle.std.specs.Prelude.{min}
 use Rattle.cabinet_job.proofs.lists.Lists.read.Given as goal
 
-abbrev pub invariant-loop-lists : goal.invariant-loop-lists
-invariant-loop-lists g l = l.lists.len ≤ l.n
-
-abbrev pub decreases-loop-lists : goal.decreases-loop-lists
-decreases-loop-lists g l = l.n - l.lists.len
+abbrev pub invariant-loop-first : goal.invariant-loop-first
+invariant-loop-first g l = l.lists.len ≡ min l.n l.first-counter

@@ -6,4 +6,4 @@ use Rattle.words.specs.Digits.{join}
 use Rattle.digits.proofs.parts.Codes.some.Given as goal
 
 abbrev pub invariant-loop-j : goal.invariant-loop-j
-invariant-loop-j g l = l.byte ≡ join g.row.BITS l.j (λ j. get_or l.self-inside.codes.now (l.at + j) 0)
+invariant-loop-j g l = l.byte ≡ join g.row.BITS l.j (λ j. get_or l.self (l.at + j) 0)

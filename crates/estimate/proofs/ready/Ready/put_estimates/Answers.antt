@@ -24,4 +24,4 @@ loop-k-preserved g c =
 pub returns : goal.returns
 returns g c =
     let e : c.loop-k.k ≡ 32 = omega arith in
-    lanes_written _ _ _ _ _ _ (rw e at c.loop-k.invariant) ∙ ap (λ (p : Judged). lane_words c.args.w p.m p.v c.args.self.now.qs c.args.block.now) c.self.view_is
+    lanes_written _ _ _ _ _ _ (rw e at c.loop-k.invariant) ∙ ap (λ (p : Judged). lane_words c.args.asked p.m p.v c.args.self.now.qs c.args.block.now) c.self.view_is

@@ -4,4 +4,4 @@ use Rattle.words.specs.Bytes.{words_of}
 use Rattle.lanes.proofs.wide.WideTable.put_lane_sums.Given as goal
 
 abbrev pub invariant-loop-k : goal.invariant-loop-k
-invariant-loop-k l = (length l.out ≡ 128) × (take (4 * l.k) l.out ≡ words_of l.k (λ j. get_or l.sums j 0))
+invariant-loop-k l = (length l.out ≡ 128) × (take (4 * l.k) l.out ≡ words_of l.k (λ j. get_or l.sum-items j 0))

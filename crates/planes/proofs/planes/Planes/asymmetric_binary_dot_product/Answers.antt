@@ -1,5 +1,5 @@
 -- `planes::Planes::asymmetric_binary_dot_product` meets its contract. Assumes nothing.
-use Rattle.std.proofs.Common.{ℕ, ◌*◌, ◌<◌, ◌∙◌, arith, length, get_or}
+use Rattle.std.proofs.Common.{ℕ, ◌≡◌, ap, ◌*◌, ◌<◌, ◌∙◌, arith, length, get_or}
 use Rattle.code.specs.Code.{code_words, words_bit}
 use Rattle.sums.proofs.PlainLaws.{plain_le}
 use Rattle.sums.proofs.PlaneLaws.{words_bit-lt}
@@ -13,10 +13,11 @@ returns c =
     let words = c.args.words.now in
     let n = code_words (length q) in
     let codes = c.as_slice.ensures in
+    let size : c.div_ceil-n.result ≡ code_words (length q) = omega (arith, ap length codes.same) in
     let planes = c.self.invariant in
     let bytes : (k : ℕ) → get_or words k 0 < 256 = λ k. omega (arith, c.type_inv.words k) in
-    let is = counts_plain q words codes.judged bytes (rw codes.same at c.plane_ones.ensures.0 ∙ held-ones q words t 0 0 n (omega arith) (omega (arith, planes.room)) planes.one)
-    (rw codes.same at c.plane_ones-2.ensures.0 ∙ held-ones q words t 1 n (2 * n) (omega arith) (omega (arith, planes.room)) planes.two)
-    (rw codes.same at c.plane_ones-3.ensures.0 ∙ held-ones q words t 2 (2 * n) (3 * n) (omega arith) (omega (arith, planes.room)) planes.four)
-    (rw codes.same at c.plane_ones-4.ensures.0 ∙ held-ones q words t 3 (3 * n) (4 * n) (omega arith) (omega (arith, planes.room)) planes.eight) in
+    let is = counts_plain q words codes.judged bytes (rw size at c.plane_ones.ensures.0 ∙ held-ones q words t 0 0 n (omega arith) (omega (arith, planes.room)) planes.one)
+    (rw size at c.plane_ones-2.ensures.0 ∙ held-ones q words t 1 n (2 * n) (omega arith) (omega (arith, planes.room)) planes.two)
+    (rw size at c.plane_ones-3.ensures.0 ∙ held-ones q words t 2 (2 * n) (3 * n) (omega arith) (omega (arith, planes.room)) planes.four)
+    (rw size at c.plane_ones-4.ensures.0 ∙ held-ones q words t 3 (3 * n) (4 * n) (omega arith) (omega (arith, planes.room)) planes.eight) in
     rw (← c.self.view_is) (is, omega (arith, is, plain_le q (words_bit words) codes.judged (words_bit-lt words)))

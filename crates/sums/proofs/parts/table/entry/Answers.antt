@@ -1,5 +1,5 @@
 -- `sums::parts::table::entry` meets its contract. Assumes nothing.
-use Rattle.std.proofs.Common.{◌≡◌, ℕ, List, ◌+◌, ◌*◌, ◌≤◌, sym, ap, ap₂, ◌∙◌, arith, get_or}
+use Rattle.std.proofs.Common.{◌≡◌, ℕ, ◌+◌, ◌*◌, ◌≤◌, sym, ap, ap₂, ◌∙◌, arith, get_or}
 use native.Mathlib.Nat.{mul-le-mul}
 use Rattle.words.proofs.SumLaws.{sum-none, sum_more}
 use Rattle.words.specs.Sums.{sum_to}
@@ -13,10 +13,8 @@ loop-b-init c = (sym (sum-none _), omega arith)
 pub loop-b-preserved : goal.loop-b-preserved
 loop-b-preserved c =
     let l = c.loop-b in
-    let codes = c.as_slice-codes.ensures in
-    let at = 4 * c.args.g + l.b in
-    let code = c.byte_at.ensures ∙ ap (λ (s : List ℕ). get_or s at 0) codes.same in
-    let small : c.byte_at.result ≤ 15 = omega (arith, code, codes.judged.small at) in
+    let code = c.byte_at.ensures in
+    let small : c.byte_at.result ≤ 15 = omega (arith, code, c.requires.0.small (4 * c.args.g + l.b)) in
     let one : c.digit.result ≤ 1 = omega arith in (
       ap₂ (λ (x y : ℕ). x + y) l.invariant.0 (ap₂ (λ (x y : ℕ). x * y) code c.digit.ensures.0) ∙ sym (sum_more l.b _),
       omega (arith, mul-le-mul small one),

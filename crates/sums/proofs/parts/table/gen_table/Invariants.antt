@@ -4,4 +4,4 @@ use Rattle.sums.specs.Sums.{group_sum}
 use Rattle.sums.proofs.parts.table.gen_table.Given as goal
 
 abbrev pub invariant-loop-i : goal.invariant-loop-i
-invariant-loop-i l = (length l.t ≡ length l.initial.t) × ((k : ℕ) → k < l.i → get_or l.t k 0 ≡ group_sum l.q (k / 16) (k % 16))
+invariant-loop-i l = (length l.byte-items ≡ l.n) × ((k : ℕ) → k < l.i → get_or l.byte-items k 0 ≡ group_sum l.q (k / 16) (k % 16))

@@ -18,26 +18,42 @@ pub fn packed_size(w: Width, dims: Dims<MOST_SCALAR_DIMS>) -> usize
     (dims.get() * w.bits()).div_ceil(8)
 }
 
-// Of codes of BITS bits: how many there are, the greatest, and how many stand in a byte.
+// Of codes of BITS bits: how many there are, the greatest, and how many stand in a byte. Each is the width's constant: BITS picks it where
+// the instance is compiled.
 pub fn levels<const BITS: u32>() -> u16
     requires { is_width BITS ≡ true }
     ensures { (result ≡ levels BITS) × (result ≤ 256) }
 {
-    1 << BITS
+    match BITS {
+        1 => Width::LEVELS_1 as u16,
+        2 => Width::LEVELS_2 as u16,
+        4 => Width::LEVELS_4 as u16,
+        _ => Width::LEVELS_8 as u16,
+    }
 }
 
 pub fn top<const BITS: u32>() -> u8
     requires { is_width BITS ≡ true }
     ensures { result ≡ top BITS }
 {
-    u8::MAX >> (8 - BITS)
+    match BITS {
+        1 => Width::TOP_1 as u8,
+        2 => Width::TOP_2 as u8,
+        4 => Width::TOP_4 as u8,
+        _ => Width::TOP_8 as u8,
+    }
 }
 
 pub fn per_byte<const BITS: u32>() -> usize
     requires { is_width BITS ≡ true }
     ensures { (result ≡ per_byte BITS) × (0 < result) × (result ≤ 8) }
 {
-    8 / (BITS as usize)
+    match BITS {
+        1 => Width::CODES_PER_BYTE_1,
+        2 => Width::CODES_PER_BYTE_2,
+        4 => Width::CODES_PER_BYTE_4,
+        _ => Width::CODES_PER_BYTE_8,
+    }
 }
 
 // Digit i of the packed bytes s: the lowest bits of what stands there.

@@ -1,5 +1,5 @@
 // A vector that is encoded.
-ghost use Rattle.std.specs.Prelude.{◌≡◌, ◌+◌, ◌*◌, ◌<◌, length, get_or, IfOk};
+ghost use Rattle.std.specs.Prelude.{◌≡◌, ◌+◌, ◌*◌, ◌≤◌, ◌<◌, length, get_or, IfOk};
 ghost use Rattle.words.specs.Digits.{join, kept};
 ghost use Rattle.words.specs.Floats.{missing};
 ghost use Rattle.words.specs.Limits.{most_dims};
@@ -11,11 +11,12 @@ ghost use Rattle.code.specs.Parts.{OfDims};
 use std::marker::Model;
 use words::{Dims, MOST_DIMS, Refusal, any_missing, byte_at, has_length, u32_at};
 
-// A vector of dims floats. A type beside `Codes` of block: this one is of floats, that one of codes, and each knows its own size.
+// A vector of dims floats; more may stand behind them. A type beside `Codes` of block: this one is of floats, that one of codes, and each
+// knows its own size.
 #[derive(Drop)]
 pub struct Vector<'a> {
-    dims: Dims<MOST_DIMS>,
-    floats: &'a [u8],
+    pub(crate) dims: usize,
+    pub(crate) floats: &'a [u8],
 }
 
 impl<'a> Model for Vector<'a> {
@@ -23,7 +24,7 @@ impl<'a> Model for Vector<'a> {
 
     ghost view = { λ v. record { dims = v.dims; bytes = v.floats.now } };
 
-    ghost invariant = { λ v. length v.floats.now ≡ 4 * v.dims };
+    ghost invariant = { λ v. (v.dims ≤ most_dims) × (4 * v.dims ≤ length v.floats.now) };
 }
 
 impl<'a> Vector<'a> {
@@ -32,7 +33,8 @@ impl<'a> Vector<'a> {
         ensures refused { RefusedIf (bad_length floats.now (4 * dims)) BadLength result }
         ensures same { IfOk result (λ v. v ≡ record { dims = dims; bytes = floats.now }) }
     {
-        has_length(floats, 4 * dims.get())?;
+        let dims = dims.get();
+        has_length(floats, 4 * dims)?;
         Ok(Vector { dims, floats })
     }
 
@@ -40,7 +42,7 @@ impl<'a> Vector<'a> {
     pub fn any_missing(&self) -> bool
         ensures { result ≡ missing self.now.dims self.now.bytes }
     {
-        any_missing(self.floats, self.dims.get())
+        any_missing(self.floats, self.dims)
     }
 
     // Dimension d's bit of the code, 0 for a pad bit.
@@ -48,7 +50,7 @@ impl<'a> Vector<'a> {
     fn sign(&self, d: usize) -> u8
         ensures { (result ≡ kept self.now.dims (sign_clear self.now.bytes) d) × (result < 2) }
     {
-        if d < self.dims.get() {
+        if d < self.dims {
             u8::from(u32_at(self.floats, 4 * d) < 0x8000_0000)
         } else {
             0
@@ -72,8 +74,8 @@ impl<'a> Vector<'a> {
         requires { length code.old ≡ code_size self.now.dims }
         ensures { code.new ≡ code_of self.now.dims (λ i. get_or factors.now i 0) (sign_clear self.now.bytes) }
     {
-        // for the bounds of dims
-        let _ = self.dims.get();
+        // for the bound of dims
+        let _ = &self.dims;
         // One loop: with the factors copied by copy_from_slice and a loop over the rest it takes 1,005 ns in place of 798 (1,024 dims).
         for (i, byte) in code.iter_mut().enumerate() {
             *byte = if i < 16 {

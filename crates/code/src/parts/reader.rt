@@ -26,8 +26,13 @@ pub fn parse_code<'a>(code: &'a [u8]) -> Code<'a>
     ensures { (kept_factors result ≡ factors_at code.now) × (result.words.now ≡ words_at code.now) }
 {
     Code {
-        factors: factors_of(code),
-        words: words_of(code),
+        factors: Factors {
+            dis_u_2: f32_at(code, 0),
+            factor_ppc: f32_at(code, 1),
+            factor_ip: f32_at(code, 2),
+            factor_err: f32_at(code, 3),
+        },
+        words: &code[16..],
     }
 }
 
@@ -36,12 +41,7 @@ pub fn factors_of(code: &[u8]) -> Factors
     requires { 16 ≤ length code.now }
     ensures { result ≡ factors_at code.now }
 {
-    Factors {
-        dis_u_2: f32_at(code, 0),
-        factor_ppc: f32_at(code, 1),
-        factor_ip: f32_at(code, 2),
-        factor_err: f32_at(code, 3),
-    }
+    parse_code(code).factors
 }
 
 // The word bytes of a code.
@@ -49,5 +49,5 @@ pub fn words_of<'a>(code: &'a [u8]) -> &'a [u8]
     requires { 16 ≤ length code.now }
     ensures { result.now ≡ words_at code.now }
 {
-    &code[16..]
+    parse_code(code).words
 }

@@ -1,5 +1,6 @@
 // The codes that a block is made of.
-ghost use Rattle.std.specs.Prelude.{◌≡◌, ◌*◌, ◌<◌, length, get_or, IfOk};
+ghost use Rattle.std.specs.Prelude.{◌≡◌, ◌*◌, ◌≤◌, ◌<◌, length, get_or, IfOk};
+ghost use Rattle.words.specs.Limits.{most_dims};
 ghost use Rattle.words.specs.Lists.{record_of};
 ghost use Rattle.words.specs.Refusals.{RefusedIf, bad_length};
 ghost use Rattle.words.specs.declared.refusal.Refusal.TheVariants.{BadLength};
@@ -15,8 +16,8 @@ use words::{Dims, MOST_DIMS, Refusal, has_length};
 // 32 single codes laid end to end. A type beside `Vector` of code: that one is of floats, this one of codes, and each knows its own size.
 #[derive(Drop)]
 pub struct Codes<'a> {
-    dims: Dims<MOST_DIMS>,
-    bytes: &'a [u8],
+    pub(crate) dims: usize,
+    pub(crate) bytes: &'a [u8],
 }
 
 impl<'a> Model for Codes<'a> {
@@ -24,7 +25,7 @@ impl<'a> Model for Codes<'a> {
 
     ghost view = { λ c. record { dims = c.dims; bytes = c.bytes.now } };
 
-    ghost invariant = { λ c. length c.bytes.now ≡ 32 * code_size c.dims };
+    ghost invariant = { λ c. (c.dims ≤ most_dims) × (length c.bytes.now ≡ 32 * code_size c.dims) };
 }
 
 impl<'a> Codes<'a> {
@@ -34,6 +35,7 @@ impl<'a> Codes<'a> {
         ensures same { IfOk result (λ c. c ≡ record { dims = dims; bytes = bytes.now }) }
     {
         has_length(bytes, 32 * code_size(dims))?;
+        let dims = dims.get();
         Ok(Codes { dims, bytes })
     }
 
@@ -43,7 +45,7 @@ impl<'a> Codes<'a> {
         requires { (k < 32) × (i < code_size self.now.dims) }
         ensures { result ≡ get_or (record_of (code_size self.now.dims) self.now.bytes k) i 0 }
     {
-        self.bytes[code_size(self.dims) * k + i]
+        self.bytes[code::parts::size(self.dims) * k + i]
     }
 
     // The nibble that a block has of code k in group g.
@@ -52,7 +54,7 @@ impl<'a> Codes<'a> {
         ensures { (result ≡ group_nibble self.now.dims (λ k. code_bit (record_of (code_size self.now.dims) self.now.bytes k)) g k) × (result < 16) }
     {
         half(
-            cleared(self.byte(k, 16 + g / 2), self.dims.get() - 8 * (g / 2)),
+            cleared(self.byte(k, 16 + g / 2), self.dims - 8 * (g / 2)),
             g,
         )
     }
@@ -68,7 +70,7 @@ impl<'a> Codes<'a> {
             *byte = self.byte(i % 128 / 4, 4 * (i / 128) + i % 4);
         }
         // By index: tried over chunks_exact_mut: its invariant is then over the borrows that the iterator gave out, and the proof didn't close.
-        for g in 0..self.dims.get().div_ceil(4) {
+        for g in 0..self.dims.div_ceil(4) {
             for j in 0..16 {
                 block[512 + 16 * g + j] = self.nibble(g, j) + 16 * self.nibble(g, j + 16);
             }

@@ -14,9 +14,9 @@ use words::{Dims, MOST_DIMS, Refusal, byte_at};
 // Lane k of a block.
 #[derive(Drop)]
 pub struct Lane<'a> {
-    dims: Dims<MOST_DIMS>,
-    block: &'a [u8],
-    k: usize,
+    pub(crate) dims: usize,
+    pub(crate) block: &'a [u8],
+    pub(crate) k: usize,
 }
 
 impl<'a> Model for Lane<'a> {
@@ -24,7 +24,7 @@ impl<'a> Model for Lane<'a> {
 
     ghost view = { λ l. record { dims = l.dims; block = l.block.now; k = l.k } };
 
-    ghost invariant = { λ l. l.k < 32 };
+    ghost invariant = { λ l. (l.dims ≤ most_dims) × (l.k < 32) };
 }
 
 impl<'a> Lane<'a> {
@@ -36,6 +36,7 @@ impl<'a> Lane<'a> {
         if 31 < k {
             return Err(Refusal::OutOfRange);
         }
+        let dims = dims.get();
         let k = k as usize;
         Ok(Lane { dims, block, k })
     }
@@ -55,7 +56,7 @@ impl<'a> Lane<'a> {
         requires { i < code_size self.now.dims }
         ensures { result ≡ code_byte self.now.dims (lane_factor self.now.block self.now.k) (lane_bit self.now.block self.now.k) i }
     {
-        let dims = self.dims.get();
+        let dims = self.dims;
         if i < 16 {
             byte_at(self.block, 128 * (i / 4) + 4 * self.k + i % 4)
         } else {

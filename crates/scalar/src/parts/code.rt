@@ -1,9 +1,8 @@
 // The code of a vector (`encode` of scalar.rs), within what the calls have tested. The number of bits is a const parameter:
 // LLVM makes a loop of its own for each width, by vectors, and one proof serves the four.
 // A const parameter carries no fact, so that BITS is a width's stands in the contracts.
-ghost use Rattle.std.specs.Prelude.{◌≡◌, true, ◌+◌, ◌≤◌, ◌<◌, length};
+ghost use Rattle.std.specs.Prelude.{◌≡◌, true, ◌+◌, ◌^◌, ◌≤◌, ◌<◌, length};
 ghost use Rattle.words.specs.Digits.{join};
-ghost use Rattle.words.specs.Limits.{most_scalar_dims};
 ghost use Rattle.digits.specs.Digits as d;
 ghost use Rattle.digits.specs.Digits.{bits_of, is_width, per_byte, packed_size};
 ghost use Rattle.scalar.specs.Code.{del_of, rounded_code, dimension_code, scalar_code};
@@ -32,6 +31,7 @@ pub fn del_of(top: u8, lo: f32, hi: f32) -> f32
 }
 
 // The code of dimension i.
+#[tactic(auto, unfolding(crate::specs::Code::dimension_code, crate::specs::Code::quotient))]
 fn code_at(top: u8, v: &Vectors, i: usize) -> u8
     requires { i < v.now.dims }
     ensures { result ≡ dimension_code top v.now.vector v.now.lo v.now.hi i }
@@ -44,7 +44,7 @@ fn code_at(top: u8, v: &Vectors, i: usize) -> u8
 // closures is longer, since the closures for a whole byte and for the last one each state again the place, the count and the result of
 // the function that they call, and the shared loop states them a third time.
 fn join_at<const BITS: u32>(n: usize, v: &Vectors, at: usize) -> u8
-    requires { (is_width BITS ≡ true) × (n ≤ per_byte BITS) × (at + n ≤ v.now.dims) × (v.now.dims ≤ most_scalar_dims) }
+    requires { (is_width BITS ≡ true) × (n ≤ per_byte BITS) × (at + n ≤ v.now.dims) × (v.now.dims < 2 ^ 64) }
     ensures { result ≡ join BITS n (λ j. dimension_code (d.top BITS) v.now.vector v.now.lo v.now.hi (at + j)) }
 {
     let mut byte = 0u8;

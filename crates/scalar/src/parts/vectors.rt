@@ -10,10 +10,11 @@ ghost use Rattle.scalar.specs.Parts.{FineVectors, Ranged};
 use std::marker::Model;
 use words::{Dims, MOST_SCALAR_DIMS, Refusal, any_missing, has_length, number_at};
 
-// A vector with the min and the max of each dimension, judged: of dims floats each, and nothing missing in them.
+// A vector with the min and the max of each dimension: of dims floats each, and nothing missing in them. The workers take any of these,
+// those of no dims, of more dims than a call takes, or with a min above its max too, which the calls refuse.
 #[derive(Drop)]
 pub struct Vectors<'a> {
-    dims: Dims<MOST_SCALAR_DIMS>,
+    dims: usize,
     vector: &'a [u8],
     lo: &'a [u8],
     hi: &'a [u8],
@@ -49,18 +50,26 @@ impl<'a> Vectors<'a> {
         if above_max(n, lo, hi) {
             return Err(Refusal::BadValue);
         }
-        Ok(Vectors {
+        Ok(Vectors::fine(n, vector, lo, hi))
+    }
+
+    // What is known to be of its length, with nothing missing in it. It refuses nothing.
+    pub fn fine(dims: usize, vector: &'a [u8], lo: &'a [u8], hi: &'a [u8]) -> Vectors<'a>
+        requires { FineVectors dims vector.now lo.now hi.now }
+        ensures { result ≡ record { dims = dims; vector = vector.now; lo = lo.now; hi = hi.now } }
+    {
+        Vectors {
             dims,
             vector,
             lo,
             hi,
-        })
+        }
     }
 
     pub fn dims(&self) -> usize
-        ensures { (result ≡ self.now.dims) × (result ≤ most_scalar_dims) }
+        ensures { result ≡ self.now.dims }
     {
-        self.dims.get()
+        self.dims
     }
 
     // The number of dimension i, its min and its max.

@@ -18,7 +18,7 @@ use Rattle.scalar.proofs.parts.code.encode_bits.Goals.{After-per_byte-per, After
 
 -- the whole bytes are bytes of out
 fits : (g : _) (c : After-per_byte-per g) → c.dims-dims.result / c.per_byte-per.result ≤ length c.args.out.now
-fits g c = rw (c.dims-dims.ensures.0, c.per_byte-per.ensures.0, c.requires.1) (whole_fits g.row.BITS c.args.v.dims c.requires.0)
+fits g c = rw (c.dims-dims.ensures, c.per_byte-per.ensures.0, c.requires.1) (whole_fits g.row.BITS c.args.v.dims c.requires.0)
 
 long : (g : _) (c : After-per_byte-per g) → let k = c.dims-dims.result / c.per_byte-per.result in length (take k c.args.out.now) ≡ k
 long g c = length-take-le _ c.args.out.now (fits g c)
@@ -27,7 +27,7 @@ long g c = length-take-le _ c.args.out.now (fits g c)
 whole : (g : _) (c : In-loop-k g) → let w = g.row.BITS in c.loop-k.k * per_byte w + per_byte w ≤ c.args.v.dims
 whole g c =
     let e = long g (goal.at.In-loop-k g c).After-per_byte-per in let t : c.loop-k.k < c.dims-dims.result / c.per_byte-per.result = omega arith in
-    (whole_byte g.row.BITS c.args.v.dims c.requires.0 c.loop-k.k (rw (c.dims-dims.ensures.0, c.per_byte-per.ensures.0) at t)).0
+    (whole_byte g.row.BITS c.args.v.dims c.requires.0 c.loop-k.k (rw (c.dims-dims.ensures, c.per_byte-per.ensures.0) at t)).0
 
 -- out after the loop: as long as before, and its first bytes are the code's
 done : (g : _) (c : After-loop-k g) → let k = c.dims-dims.result / c.per_byte-per.result in let w = g.row.BITS in let v = c.args.v in
@@ -64,14 +64,14 @@ loop-k-preserved g c =
 
 pub bounds-out-whole : goal.bounds-out-whole
 bounds-out-whole g c =
-    let d = c.dims-dims.ensures.0 in let per = c.per_byte-per.ensures.0 in
+    let d = c.dims-dims.ensures in let per = c.per_byte-per.ensures.0 in
     let t = some_left g.row.BITS c.args.v.dims c.requires.0 (rw (d, per) at c.if-at-dims.true) in
     rw (d, per) (omega (arith, t.0, rw (d, per) at (done g (goal.at.bounds-out-whole g c).After-loop-k).0))
 
 pub returns-then-at-dims : goal.returns-then-at-dims
 returns-then-at-dims g c =
     let w = g.row.BITS in let v = c.args.v in
-    let d = c.dims-dims.ensures.0 in let per = c.per_byte-per.ensures.0 in let k = v.dims / per_byte w in
+    let d = c.dims-dims.ensures in let per = c.per_byte-per.ensures.0 in let k = v.dims / per_byte w in
     let t = some_left w v.dims c.requires.0 (rw (d, per) at c.if-at-dims.true) in
     let o = rw (d, per) at (done g (goal.at.returns-then-at-dims g c).After-loop-k) in
     let m : k * per_byte w < v.dims = rw (d, per) at c.if-at-dims.true in
@@ -83,7 +83,7 @@ returns-then-at-dims g c =
 pub returns-else-at-dims : goal.returns-else-at-dims
 returns-else-at-dims g c =
     let w = g.row.BITS in let v = c.args.v in
-    let d = c.dims-dims.ensures.0 in let per = c.per_byte-per.ensures.0 in
+    let d = c.dims-dims.ensures in let per = c.per_byte-per.ensures.0 in
     let n = none_left w v.dims c.requires.0 (rw (d, per) at c.if-at-dims.false) in
     let o = done g (goal.at.returns-else-at-dims g c).After-loop-k in
     scalar_filled w v.dims v.vector v.lo v.hi _ o.0 (λ j h. o.1 j (rw (d, per) (rw n at h)))

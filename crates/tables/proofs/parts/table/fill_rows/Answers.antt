@@ -9,7 +9,7 @@ use Rattle.words.proofs.ByteLaws.{sets_all}
 use Rattle.words.proofs.ListLaws.{joined-none, length-joined}
 use Rattle.digits.specs.Digits.{levels}
 use Rattle.scalar.specs.Table.{entry_at, table_bytes}
-use Rattle.scalar.proofs.ScalarLaws.{length-row, levels_le, rows_fit, piece_more}
+use Rattle.scalar.proofs.ScalarLaws.{length-row, levels_le, piece_more}
 use Rattle.tables.proofs.parts.table.fill_rows.Invariants.{row}
 use Rattle.tables.proofs.parts.table.fill_rows.Goals as goal
 use Rattle.tables.proofs.parts.table.fill_rows.Goals.{In-loop-i}
@@ -19,16 +19,16 @@ loop-i-init g c = rw joined-none refl
 
 -- row i is within the table
 within : (g : _) (c : In-loop-i g) → let n = levels g.row.BITS in let d = c.args.v.dims in
-    (c.loop-i.i * n + n ≤ d * n) × (d * n + n ≤ 0x100_0000) × (n ≤ 256)
+    (c.loop-i.i * n + n ≤ d * n) × (n ≤ 256)
 within g c =
-    let d = c.dims-i-end.ensures in let w = g.row.BITS in
+    let w = g.row.BITS in
     let t : c.loop-i.i + 1 ≤ c.args.v.dims = omega arith in
-    (omega (arith, mul-le-mul_right (levels w) t), rows_fit w c.args.v.dims c.requires.0 (omega arith), levels_le w c.requires.0)
+    (omega (arith, mul-le-mul_right (levels w) t), levels_le w c.requires.0)
 
 pub put_row-requires : goal.put_row-requires
 put_row-requires g c =
     let t = within g (goal.at.put_row-requires g c).In-loop-i in let r = c.requires.1 in
-    rw (c.from.ensures, c.levels-n.ensures.0) (t.2, rw c.loop-i.invariant (simp length-sets (omega arith)))
+    rw (c.from.ensures, c.levels-n.ensures.0) (t.1, rw c.loop-i.invariant (simp length-sets (omega arith)))
 
 pub overflow_mul-i : goal.overflow_mul-i
 overflow_mul-i g c =

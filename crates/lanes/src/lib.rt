@@ -10,6 +10,7 @@ use sums::QueryCodes;
 pub use wide::{WideTable, with_wide_table};
 use words::{Dims, MOST_DIMS, Refusal, has_length};
 
+pub mod parts;
 mod tabled;
 mod wide;
 

@@ -5,51 +5,39 @@ ghost use Rattle.std.specs.Borrow.{Bor, MutBor};
 ghost use Rattle.words.specs.Bytes.{words_of};
 ghost use Rattle.block.specs.Block.{block_groups, block_size, lane_bit};
 ghost use Rattle.sums.specs.Sums.{plain_sum};
+ghost use Rattle.sums.specs.Sums as sums;
 ghost use Rattle.sums.specs.Parts.{LaneSums};
 ghost use Rattle.lanes.specs.Parts as parts;
 
-use crate::tabled::Tabled;
+use crate::parts::{
+    FEW_DIMS, FEW_WIDE, MIDDLING_DIMS, MIDDLING_WIDE, WIDE, fill_wide, lane_sums, put_sums,
+};
 use std::marker::Model;
 use sums::QueryCodes;
-use words::{MOST_DIMS, byte_at, put_u32};
-
-// How many bytes the wide table of a query has at most.
-// Not by `div_ceil`: a constant's value cannot hold a call.
-const WIDE: usize = 64 * ((MOST_DIMS as usize + 3) / 4);
-
-// The same of queries of few dims, and of a middling number. An array is cleared when it is made, and to clear all of WIDE takes
-// longer than to sum a block of 1,024 dims.
-const FEW_DIMS: usize = 256;
-
-const FEW_WIDE: usize = 16 * FEW_DIMS;
-
-const MIDDLING_DIMS: usize = 1024;
-
-const MIDDLING_WIDE: usize = 16 * MIDDLING_DIMS;
 
 // A query and its wide table, in room that is lent. Clauses see the query's codes.
 #[derive(Drop)]
 pub struct WideTable<'a> {
-    query: &'a QueryCodes<'a>,
+    codes: &'a [u8],
     bytes: &'a [u8],
 }
 
 impl<'a> Model for WideTable<'a> {
     ghost Value = { List ℕ };
 
-    ghost view = { λ t. t.query.now };
+    ghost view = { λ t. t.codes.now };
 
-    ghost invariant = { λ t. parts.Wide t.query.now t.bytes.now };
+    ghost invariant = { λ t. sums.QueryCodes t.codes.now × parts.Wide t.codes.now t.bytes.now };
 }
 
 impl<'a> WideTable<'a> {
     // In room of its size or longer.
-    fn fill(query: &'a QueryCodes<'a>, room: &'a mut [u8]) -> WideTable<'a>
-        requires { 64 * block_groups (length query.now) ≤ length room.old }
-        ensures { result ≡ query.now }
+    fn fill(codes: &'a [u8], room: &'a mut [u8]) -> WideTable<'a>
+        requires { sums.QueryCodes codes.now × (64 * block_groups (length codes.now) ≤ length room.old) }
+        ensures { result ≡ codes.now }
     {
-        fill_wide(query.as_slice(), room);
-        WideTable { query, bytes: room }
+        fill_wide(codes, room);
+        WideTable { codes, bytes: room }
     }
 
     // The sums of a block's 32 lanes. A block is a plain part of the caller's records, judged by its length alone; a type for it would hold
@@ -58,12 +46,7 @@ impl<'a> WideTable<'a> {
         requires { length block.now ≡ block_size (length self.now) }
         ensures { LaneSums self.now block.now result }
     {
-        let tabled = Tabled {
-            codes: self.query.as_slice(),
-            table: self.bytes,
-            block,
-        };
-        tabled.lane_sums()
+        lane_sums(self.codes, self.bytes, block)
     }
 
     // The same, as numbers of 32 bits.
@@ -71,42 +54,50 @@ impl<'a> WideTable<'a> {
         requires { (length block.now ≡ block_size (length self.now)) × (length out.old ≡ 128) }
         ensures { out.new ≡ words_of 32 (λ k. plain_sum self.now (lane_bit block.now k)) }
     {
-        let sums = self.lane_sums(block);
-        for (k, sum) in sums.iter().enumerate() {
-            put_u32(out, 4 * k, *sum);
-        }
+        put_sums(out, &self.lane_sums(block));
     }
 }
 
-// Each query code 16 times, and 0 past the last, up to whole groups.
-fn fill_wide(codes: &[u8], room: &mut [u8])
-    requires { 64 * block_groups (length codes.now) ≤ length room.old }
-    ensures { parts.Wide codes.now room.new }
-{
-    let n = 4 * codes.len().div_ceil(4);
-    for d in 0..n {
-        room[16 * d..16 * d + 16].fill(byte_at(codes, d));
-    }
-}
-
-// What f leaves in out, called once with the query's table in room of N bytes. What f needs besides is lent to it, since nothing is known
-// of what a closure gives that captures a struct with a lifetime.
-fn with_room<const N: usize, E, F: FnOnce(&E, &WideTable, &mut [u8])>(
-    query: &QueryCodes,
+// What f gives and leaves in out, called once with the codes' table in room of N bytes. What f needs besides is lent to it, since nothing is
+// known of what a closure gives that captures a struct with a lifetime.
+fn with_room<const N: usize, E, R, F: FnOnce(&E, &WideTable, &mut [u8]) -> R>(
+    codes: &[u8],
     env: &E,
     out: &mut [u8],
     f: F,
-)
-    requires room { (64 * block_groups (length query.now) ≤ N) × (N ≤ WIDE) }
-    requires callable { (e : Bor E) (t : Bor _) (o : MutBor _) → e.now ≡ env.now → t.now ≡ query.now → o.now ≡ out.old → F.pre f e t o }
-    ensures { (e : Bor E) × (t : Bor _) × (o : MutBor _) × (p : MutBor _) × F.post f e t o tt p
-        × (e.now ≡ env.now) × (t.now ≡ query.now) × (o.now ≡ out.old) × (p.now ≡ out.new) }
+) -> R
+    requires room { sums.QueryCodes codes.now × (64 * block_groups (length codes.now) ≤ N) × (N ≤ WIDE) }
+    requires callable { (e : Bor E) (t : Bor _) (o : MutBor _) → e.now ≡ env.now → t.now ≡ codes.now → o.now ≡ out.old → F.pre f e t o }
+    ensures { (e : Bor E) × (t : Bor _) × (o : MutBor _) × (p : MutBor _) × F.post f e t o result p
+        × (e.now ≡ env.now) × (t.now ≡ codes.now) × (o.now ≡ out.old) × (p.now ≡ out.new) }
 {
     let mut room = [0u8; N];
-    f(env, &WideTable::fill(query, &mut room), out)
+    f(env, &WideTable::fill(codes, &mut room), out)
 }
 
-// The same, in room of as many bytes as the query's dims ask for.
+// The same, in room of as many bytes as the codes' number asks for.
+pub(crate) fn with_table<E, R, F: FnOnce(&E, &WideTable, &mut [u8]) -> R>(
+    codes: &[u8],
+    env: &E,
+    out: &mut [u8],
+    f: F,
+) -> R
+    requires codes { sums.QueryCodes codes.now }
+    requires callable { (e : Bor E) (t : Bor _) (o : MutBor _) → e.now ≡ env.now → t.now ≡ codes.now → o.now ≡ out.old → F.pre f e t o }
+    ensures { (e : Bor E) × (t : Bor _) × (o : MutBor _) × (p : MutBor _) × F.post f e t o result p
+        × (e.now ≡ env.now) × (t.now ≡ codes.now) × (o.now ≡ out.old) × (p.now ≡ out.new) }
+{
+    let n = codes.len();
+    if n <= FEW_DIMS {
+        with_room::<FEW_WIDE, E, R, F>(codes, env, out, f)
+    } else if n <= MIDDLING_DIMS {
+        with_room::<MIDDLING_WIDE, E, R, F>(codes, env, out, f)
+    } else {
+        with_room::<WIDE, E, R, F>(codes, env, out, f)
+    }
+}
+
+// The same, for a judged query.
 pub fn with_wide_table<E, F: FnOnce(&E, &WideTable, &mut [u8])>(
     query: &QueryCodes,
     env: &E,
@@ -117,12 +108,5 @@ pub fn with_wide_table<E, F: FnOnce(&E, &WideTable, &mut [u8])>(
     ensures { (e : Bor E) × (t : Bor _) × (o : MutBor _) × (p : MutBor _) × F.post f e t o tt p
         × (e.now ≡ env.now) × (t.now ≡ query.now) × (o.now ≡ out.old) × (p.now ≡ out.new) }
 {
-    let n = query.len();
-    if n <= FEW_DIMS {
-        with_room::<FEW_WIDE, E, F>(query, env, out, f)
-    } else if n <= MIDDLING_DIMS {
-        with_room::<MIDDLING_WIDE, E, F>(query, env, out, f)
-    } else {
-        with_room::<WIDE, E, F>(query, env, out, f)
-    }
+    with_table::<E, (), F>(query.as_slice(), env, out, f)
 }

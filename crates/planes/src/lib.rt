@@ -6,15 +6,15 @@ ghost use Rattle.words.specs.Refusals.{status};
 ghost use Rattle.sums.specs.Calls.{code_sum_answer};
 
 use code::parts::code_size;
-use code::parts::reader::words_of;
 pub use planes::{PLANE_WORDS, Planes};
 use sums::QueryCodes;
 use words::{Dims, MOST_DIMS, Refusal, has_length, put_number};
 
+pub mod parts;
 mod planes;
 
 // The sum of a single code, by planes.
-#[tactic(auto, using(sums::proofs::PlainLaws::words_sum), unfolding(sums::specs::Calls::code_sum_answer, sums::specs::Calls::sum_number, words::specs::Refusals::answer, words::specs::Refusals::after))]
+#[tactic(auto, unfolding(sums::specs::Calls::code_sum_answer, sums::specs::Calls::sum_number, words::specs::Refusals::answer, words::specs::Refusals::after))]
 pub fn code_sum(dims: u32, query: &[u8], code: &[u8], out: &mut [u8]) -> Result<(), Refusal>
     ensures { (status result, out.new) ≡ code_sum_answer dims query.now code.now out.old }
 {
@@ -24,7 +24,6 @@ pub fn code_sum(dims: u32, query: &[u8], code: &[u8], out: &mut [u8]) -> Result<
     has_length(out, 4)?;
     let query = QueryCodes::judged(dims, query)?;
     let mut room = [0u64; PLANE_WORDS];
-    let planes = Planes::binarize(&query, &mut room);
-    put_number(out, planes.asymmetric_binary_dot_product(words_of(code)));
+    put_number(out, parts::code_sum(query.as_slice(), code, &mut room));
     Ok(())
 }

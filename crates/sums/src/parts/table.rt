@@ -1,11 +1,11 @@
 // The sums of a block's lanes by a table of 16 sums for each group of four dimensions: the Rust's `gen` and `fast_scan_b4`. The calls
 // use the form of `lanes`; this one serves any table of bytes, 16 a group.
-ghost use Rattle.std.specs.Prelude.{◌≡◌, ◌+◌, ◌*◌, ◌/◌, ◌%◌, ◌<◌, ◌≤◌, length};
+ghost use Rattle.std.specs.Prelude.{◌≡◌, ℕ, ◌+◌, ◌*◌, ◌/◌, ◌%◌, ◌<◌, ◌≤◌, length, get_or};
 ghost use Rattle.words.specs.Digits.{bit};
-ghost use Rattle.words.specs.Limits.{most_dims};
+ghost use Rattle.words.specs.Limits.{most_dims, top_code};
 ghost use Rattle.block.specs.Block.{block_groups, block_size};
 ghost use Rattle.sums.specs.Sums.{group_sum, groups_nibble, table_count, QueryCodes};
-ghost use Rattle.sums.specs.Parts.{Table, Scanned, LaneSums};
+ghost use Rattle.sums.specs.Parts.{Table, Each, Scanned, LaneSums};
 
 use block::parts::half;
 use std::array;
@@ -20,17 +20,32 @@ fn digit(m: u8, b: usize) -> u8
     (m >> b) % 2
 }
 
-// Entry m of group g: the sum of the group's query codes at the set digits of m.
-fn entry(q: &[u8], g: usize, m: u8) -> u8
-    requires { QueryCodes q.now × (g < block_groups most_dims) }
-    ensures { result ≡ group_sum q.now g m }
+// The four query codes of group g, and 0 past the last. They are read once for all the group's entries.
+fn group_codes(q: &[u8], g: usize) -> [u8; 4]
+    requires { g < block_groups most_dims }
+    ensures { Each 4 (λ b. get_or q.now (4 * g + b) 0) result }
+{
+    array::from_fn(|b| byte_at(q, 4 * g + b))
+}
+
+// Entry m of a group with these codes: the sum of those at the set digits of m.
+fn entry(codes: &[u8; 4], m: u8) -> u8
+    requires { (b : ℕ) → b < 4 → get_or codes.now b 0 ≤ top_code }
+    ensures { result ≡ group_sum codes.now 0 m }
 {
     let mut sum = 0u8;
-    // by b: a code past the last dimension counts 0, which an iterator over the codes would have to add
-    for b in 0..4 {
-        sum += byte_at(q, 4 * g + b) * digit(m, b);
+    for (b, code) in codes.iter().enumerate() {
+        sum += *code * digit(m, b);
     }
     sum
+}
+
+// The 16 entries of a group with these codes.
+fn entries(codes: &[u8; 4]) -> [u8; 16]
+    requires { (b : ℕ) → b < 4 → get_or codes.now b 0 ≤ top_code }
+    ensures { Each 16 (λ m. group_sum codes.now 0 m) result }
+{
+    array::from_fn(|m| entry(codes, m as u8))
 }
 
 // The table of a query, in a buffer of its size or a longer one: entry m of group g at 16g + m. The Rust's `gen`.
@@ -38,9 +53,10 @@ pub fn gen_table(q: &[u8], t: &mut [u8])
     requires { QueryCodes q.now × (16 * block_groups (length q.now) ≤ length t.old) }
     ensures { Table q.now t.new }
 {
-    let n = 16 * q.len().div_ceil(4);
-    for (i, byte) in t[..n].iter_mut().enumerate() {
-        *byte = entry(q, i / 16, (i % 16) as u8);
+    let n = q.len().div_ceil(4);
+    for g in 0..n {
+        let codes = group_codes(q, g);
+        t[16 * g..16 * g + 16].copy_from_slice(&entries(&codes));
     }
 }
 

@@ -1,23 +1,7 @@
 -- `lanes::WideTable::put_lane_sums` meets its contract. Assumes nothing.
-use Rattle.std.proofs.Common.{ℕ, ◌≡◌, ◌*◌, sym, ap, ◌∙◌, arith, get_or}
-use lib.Seq.{take_all}
-use Rattle.words.specs.Bytes.{words_of}
-use Rattle.words.proofs.WordsLaws.{words_none, words_more, words_ext}
+use Rattle.std.proofs.Common.{◌∙◌}
+use Rattle.words.proofs.WordsLaws.{words_ext}
 use Rattle.lanes.proofs.wide.WideTable.put_lane_sums.Goals as goal
 
-pub loop-k-init : goal.loop-k-init
-loop-k-init c = (c.requires.1, words_none c.args.out.now _)
-
-pub loop-k-preserved : goal.loop-k-preserved
-loop-k-preserved c =
-    let l = c.loop-k in
-    let sums = c.lane_sums-sums.result in
-    (c.put_u32.auto.out ∙ l.invariant.0, rw c.put_u32.ensures (words_more l.out l.k (λ j. get_or sums j 0) (omega arith) l.invariant.1))
-
 pub returns : goal.returns
-returns c =
-    let l = c.loop-k in
-    let e : l.k ≡ 32 = omega arith in
-    let all = take_all (4 * l.k) l.out (omega arith) in
-    sym all ∙ l.invariant.1 ∙ ap (λ (n : ℕ). words_of n (λ j. get_or c.lane_sums-sums.result j 0)) e
-    ∙ words_ext 32 _ _ c.lane_sums-sums.ensures.sums.each
+returns c = c.put_sums.ensures ∙ words_ext 32 _ _ c.lane_sums.ensures.sums.each

@@ -1,4 +1,4 @@
--- `planes::planes::digits` meets its contract. Assumes nothing.
+-- `planes::parts::digits` meets its contract. Assumes nothing.
 use mathlib.Core.Path.{refl, sym, ap, ◌∙◌}
 use mathlib.Core.Logic.{⊎_elim}
 use Prim.Native.Nat.{ℕ}
@@ -9,7 +9,7 @@ use Rattle.words.specs.Digits.{bit}
 use Rattle.words.proofs.DigitLaws.{lt_or_ge}
 use Rattle.words.proofs.ListLaws.{filled_more, rest_more}
 use Rattle.planes.proofs.WordLaws.{bit-none}
-use Rattle.planes.proofs.planes.digits.Goals as goal
+use Rattle.planes.proofs.parts.digits.Goals as goal
 
 pub loop-i-init : goal.loop-i-init
 loop-i-init c = (refl, below_none _, λ k l. refl)

@@ -1,4 +1,4 @@
--- `planes::planes::plane_word` meets its contract. Assumes nothing.
+-- `planes::parts::plane_word` meets its contract. Assumes nothing.
 use mathlib.Core.Path.{◌∙◌, ap, sym, subst}
 use Prim.Native.Nat.{ℕ, ◌+◌, ◌*◌, ◌<◌}
 use lib.ListN.{get_or}
@@ -7,7 +7,7 @@ use Rattle.words.proofs.DigitLaws.{bit-lt, join_ext}
 use Rattle.sums.specs.Sums.{plane_word}
 use Rattle.planes.proofs.WordLaws.{zeros_at, part_at}
 use borrow.Author.Rules.{rules}
-use Rattle.planes.proofs.planes.plane_word.Goals as goal
+use Rattle.planes.proofs.parts.plane_word.Goals as goal
 
 pub digits-requires : goal.digits-requires
 digits-requires c = (c.requires.0, search rules, zeros_at 64)

@@ -1,8 +1,8 @@
--- `planes::planes::fill_planes` meets its contract. Assumes nothing.
+-- `planes::parts::binarize` meets its contract. Assumes nothing.
 use Rattle.std.proofs.Common.{ℕ, ◌≡◌, ◌-◌, arith, length, length-drop}
 use Rattle.code.specs.Code.{code_words}
 use Rattle.planes.proofs.WordLaws.{planes_put}
-use Rattle.planes.proofs.planes.fill_planes.Goals as goal
+use Rattle.planes.proofs.parts.binarize.Goals as goal
 
 pub returns : goal.returns
 returns c =

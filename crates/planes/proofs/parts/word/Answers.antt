@@ -1,4 +1,4 @@
--- `planes::planes::word` meets its contract. Assumes nothing.
+-- `planes::parts::word` meets its contract. Assumes nothing.
 use mathlib.Core.Path.{◌≡◌, refl, sym, ap, ◌∙◌}
 use Prim.Native.Nat.{ℕ, ◌+◌, ◌*◌, ◌%◌, ◌^◌, ◌<◌}
 use native.Mathlib.Omega.{arith}
@@ -6,8 +6,8 @@ use lib.ListN.{get_or}
 use Rattle.words.specs.Digits.{join}
 use Rattle.words.proofs.DigitLaws.{bits_lt, digit_more, join-none}
 use Rattle.planes.proofs.WordLaws.{join_nibbles}
-use Rattle.planes.proofs.planes.word.Goals as goal
-use Rattle.planes.proofs.planes.word.Goals.{After-nibble}
+use Rattle.planes.proofs.parts.word.Goals as goal
+use Rattle.planes.proofs.parts.word.Goals.{After-nibble}
 
 -- nibble i of the word
 nibble_of : (c : After-nibble) → ℕ → ℕ

@@ -1,4 +1,4 @@
--- `planes::planes::plane_ones` meets its contract. Assumes nothing.
+-- `planes::parts::plane_ones` meets its contract. Assumes nothing.
 use mathlib.Core.Path.{◌≡◌, ◌∙◌, ap, ap₂, sym}
 use Prim.Native.Nat.{ℕ, ◌+◌, ◌*◌, zero-le}
 use native.Mathlib.Omega.{arith}
@@ -8,7 +8,7 @@ use lib.ListN.{get_or, length}
 use Rattle.words.specs.Bytes.{num_at}
 use Rattle.words.specs.Sums.{sum_to}
 use Rattle.words.proofs.SumLaws.{sum-none, sum_more}
-use Rattle.planes.proofs.planes.plane_ones.Goals as goal
+use Rattle.planes.proofs.parts.plane_ones.Goals as goal
 
 pub loop-w-init : goal.loop-w-init
 loop-w-init c = (sym (sum-none _), zero-le)

@@ -1,10 +1,10 @@
--- `planes::planes::nibble` meets its contract. Assumes nothing.
+-- `planes::parts::nibble` meets its contract. Assumes nothing.
 use mathlib.Core.Path.{ap, ◌∙◌}
 use Prim.Native.Nat.{ℕ, ◌+◌, ◌*◌, ◌/◌, ◌%◌}
 use native.Mathlib.Omega.{arith}
 use lib.ListN.{get_or}
 use Rattle.planes.proofs.WordLaws.{fold_four, four_bytes, four_digits}
-use Rattle.planes.proofs.planes.nibble.Goals as goal
+use Rattle.planes.proofs.parts.nibble.Goals as goal
 
 pub returns : goal.returns
 returns c =

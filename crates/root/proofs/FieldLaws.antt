@@ -1,26 +1,16 @@
--- A positive number by its pattern's fields, m * 2 ^ e with an m of 24 digits, and then n * 4 ^ k,
--- in units of 2 ^ -298. A subnormal pattern b has j + 1 digits and 31 - j leading zeros, so a shift by 23 - j gives it
+-- A positive number by its pattern's fields, m * 2 ^ e with an m of 24 digits, and then n * 4 ^ k: what `take_apart` and `even`
+-- work out, in units of 2 ^ -298. A subnormal pattern b has j + 1 digits and 31 - j leading zeros, so a shift by 23 - j gives it
 -- 24 digits. Assumes nothing.
 use mathlib.Core.Path.{◌≡◌, refl, sym, ap, ◌∙◌, subst}
 use mathlib.Core.Bool.{Bool, true, false}
 use Prim.Native.Nat.{ℕ, suc, ◌+◌, ◌-◌, ◌*◌, ◌/◌, ◌%◌, ◌^◌, ◌≤◌, ◌<◌}
 use native.Mathlib.Nat.{le_trans, lt_of_lt_of_le, lt_of_not-le, not-le_of_lt, mul_assoc, mul-le-mul_right, mod-eq_of_lt}
-use mathlib.Core.Logic.{⊎_elim}
 use native.Mathlib.Omega.{arith}
-use Rattle.words.proofs.DigitLaws.{lt_or_ge}
-use lib.Dec.{ltb}
+use lib.Dec.{ltb, eqb}
 use lib.Pow.{pow-add, pow_mono, shl_lt}
 use lib.Count.{count_leading_zeros, leading_top}
-use borrow.Author.Tests.{ltb-true, ltb-false, lt-ltb, le-ltb}
-use Rattle.root.specs.Parts.{units_of}
-
--- m * 2 ^ e is the number of the pattern b, in units of 2 ^ -298
-pub record IsParts (b m e : ℕ) : Type 0 where
-  pub m_low : 2 ^ 23 ≤ m
-  pub m_high : m < 2 ^ 24
-  pub e_low : 126 ≤ e
-  pub e_high : e ≤ 402
-  pub same : m * 2 ^ e ≡ units_of b * 2 ^ 149
+use borrow.Author.Tests.{ltb-true, ltb-false, lt-ltb, le-ltb, eqb-true, eqb-false}
+use Rattle.root.specs.Parts.{units_of, IsParts, IsScaled}
 
 -- the number of a subnormal pattern, and of a normal one
 pub units-subnormal : (b : ℕ) → b < 0x80_0000 → units_of b ≡ b
@@ -84,8 +74,23 @@ from b l h =
 
 -- ---- an even power
 
-pub parted : (m e j k : ℕ) → e ≡ j + (k + k) → m * 2 ^ j * (2 ^ k * 2 ^ k) ≡ m * 2 ^ e
+parted : (m e j k : ℕ) → e ≡ j + (k + k) → m * 2 ^ j * (2 ^ k * 2 ^ k) ≡ m * 2 ^ e
 parted m e j k h = ap (λ (x : ℕ). m * 2 ^ j * x) (sym (pow-add 2 k k)) ∙ joined m j (k + k) e (sym h)
+
+abbrev pub Bounds : ℕ → ℕ → Type 0
+Bounds m e = (2 ^ 23 ≤ m) × (m < 2 ^ 24) × (126 ≤ e) × (e ≤ 402)
+
+-- a factor 2 ^ j, for a j that leaves an even power
+scaled : (m e j k : ℕ) → Bounds m e → (23 ≤ j) × (j ≤ 24) → e ≡ j + (k + k) → 2 ^ 46 ≤ m * 2 ^ j → m * 2 ^ j ≤ 2 ^ 48 - 2 ^ 24
+    → IsScaled m e (m * 2 ^ j) k
+scaled m e j k b r h l u =
+    record { n_low = l; n_high = u; k_low = omega (arith, b.2); k_high = omega (arith, b.3); same = parted m e j k h }
+
+pub at_even : (m e : ℕ) → Bounds m e → e % 2 ≡ 0 → IsScaled m e (m * 0x100_0000) ((e - 24) / 2)
+at_even m e b h = scaled m e 24 ((e - 24) / 2) b (omega arith, omega arith) (omega (arith, b.2)) (omega (arith, b.0)) (omega (arith, b.1))
+
+pub at-odd : (m e : ℕ) → Bounds m e → e % 2 ≡ 1 → IsScaled m e (m * 0x80_0000) ((e - 23) / 2)
+at-odd m e b h = scaled m e 23 ((e - 23) / 2) b (omega arith, omega arith) (omega (arith, b.2)) (omega (arith, b.0)) (omega (arith, b.1))
 
 -- ---- so each positive pattern's number is some n * 4 ^ k
 
@@ -96,6 +101,10 @@ pub record Whole (b n k : ℕ) : Type 0 where
   pub k_high : k ≤ 189
   pub same : n * (2 ^ k * 2 ^ k) ≡ units_of b * 2 ^ 149
 
+pub whole_of : (b m e n k : ℕ) → IsParts b m e → IsScaled m e n k → Whole b n k
+whole_of b m e n k p s =
+    record { n_low = s.n_low; n_high = s.n_high; k_low = s.k_low; k_high = s.k_high; same = s.same ∙ p.same }
+
 some_parts : (b : ℕ) → 0 < b → b < 0x7F80_0000 → (m : ℕ) × (e : ℕ) × IsParts b m e
 some_parts b B H = go (ltb b 0x80_0000) refl
   where
@@ -103,18 +112,18 @@ some_parts b B H = go (ltb b 0x80_0000) refl
     go true t = (_, _, below b B (ltb-true _ _ t))
     go false t = (_, _, from b (ltb-false _ _ t) H)
 
--- by a factor 2 ^ j, for a j that leaves an even power
-whole_of : (b m e j k : ℕ) → IsParts b m e → (23 ≤ j) × (j ≤ 24) → e ≡ j + (k + k) → 2 ^ 46 ≤ m * 2 ^ j → m * 2 ^ j ≤ 2 ^ 48 - 2 ^ 24
-    → Whole b (m * 2 ^ j) k
-whole_of b m e j k p r h l u =
-    record { n_low = l; n_high = u; k_low = omega (arith, p.e_low); k_high = omega (arith, p.e_high); same = parted m e j k h ∙ p.same }
+some-scaled : (m e : ℕ) → Bounds m e → (n : ℕ) × (k : ℕ) × IsScaled m e n k
+some-scaled m e b = go (eqb (e % 2) 0) refl
+  where
+    one : (e % 2 ≡ 0 → ⊥) → e % 2 ≡ 1
+    one h = omega arith
+
+    go : (t : Bool) → eqb (e % 2) 0 ≡ t → (n : ℕ) × (k : ℕ) × IsScaled m e n k
+    go true t = (_, _, at_even m e b (eqb-true _ _ t))
+    go false t = (_, _, at-odd m e b (one (eqb-false _ _ t)))
 
 pub some-whole : (b : ℕ) → 0 < b → b < 0x7F80_0000 → (n : ℕ) × (k : ℕ) × Whole b n k
-some-whole b B H = let p = some_parts b B H in go p.0 p.1 p.2
-  where
-    go : (m e : ℕ) → IsParts b m e → (n : ℕ) × (k : ℕ) × Whole b n k
-    go m e p =
-        ⊎_elim
-        (λ h. (_, _, whole_of b m e 24 ((e - 24) / 2) p (omega arith, omega arith) (omega (arith, p.e_low)) (omega (arith, p.m_low)) (omega (arith, p.m_high))))
-        (λ h. (_, _, whole_of b m e 23 ((e - 23) / 2) p (omega arith, omega arith) (omega (arith, p.e_low)) (omega (arith, p.m_low)) (omega (arith, p.m_high))))
-        (lt_or_ge (e % 2) 1)
+some-whole b B H =
+    let p = some_parts b B H in
+    let s = some-scaled p.0 p.1 (p.2.m_low, p.2.m_high, p.2.e_low, p.2.e_high) in
+    (s.0, s.1, whole_of b p.0 p.1 s.0 s.1 p.2 s.2)

@@ -4,5 +4,4 @@ pub mod RoundingLaws
 pub mod PatternLaws
 pub mod CaseLaws
 pub mod NearestLaws
-pub mod SqrtLaws
-pub mod SubnormalLaws
+pub mod GuessLaws

@@ -6,23 +6,21 @@ use Prim.Native.Nat.{ℕ, zero, suc, ◌+◌, ◌-◌, ◌*◌, ◌/◌, ◌%◌
 use native.Mathlib.Nat.{le_trans, le_of_lt, lt_of_lt_of_le, lt_of_le_of_lt, le_of_suc-le-suc, mod-eq_of_lt, div-eq_of_lt}
 use native.Mathlib.Nat.{mul-div_cancel, mul-le-mul_right, mul-one, mul-pos, mul_assoc, mul_right_comm}
 use native.Mathlib.Omega.{arith}
-use lib.Dec.{T, ltb, leb, lit<}
+use lib.Dec.{T, ltb, lit<}
 use lib.Pow.{pow-add, pow_pos, pow_mono, shl_lt}
-use lib.Ieee.{Float, nan, inf, fin, binary32, size, odd, units, of_fields, of_bits, fits, round, root_twice, sqrt}
+use lib.Ieee.{Float, nan, inf, fin, binary32, size, odd, units, of_fields, of_bits, fits}
 use lib.Ieee.Fits.{odd-fits}
 use lib.Ieee.Bits.{of_bits-to_bits}
 use lib.Ieee.Exact.{HasValue, odd_sign, units_val}
 use lib.Ieee.Positive.{num, den, positive, den_pos, value→cross, positive_of_value}
-use borrow.Author.Tests.{ltb-true, ltb-false, leb-true, leb-false, lt-ltb, lt-leb, ne_eqb}
+use borrow.Author.Tests.{ltb-true, ltb-false, lt-ltb, lt-leb, ne_eqb}
 use Rattle.words.proofs.FloatLaws.{size_is, bits_of}
-use Rattle.root.specs.Isqrt.{isqrt}
 use Rattle.root.specs.Root.{root_of, round_root}
 use Rattle.root.specs.Parts.{units_of}
 use Rattle.std.specs.Prelude.{Some}
-use Rattle.root.proofs.SquareLaws.{Floor, root_lt, isqrt_is}
-use Rattle.root.proofs.FieldLaws.{Whole, some-whole, units-subnormal, units-normal}
+use Rattle.root.proofs.SquareLaws.{Floor, root_lt}
+use Rattle.root.proofs.FieldLaws.{Whole, units-subnormal, units-normal}
 use Rattle.root.proofs.RoundingLaws.{root_down, root_up}
-use Rattle.root.proofs.SqrtLaws.{sqrt_down, sqrt_up}
 
 -- ---- from a pattern to its number
 
@@ -110,14 +108,6 @@ root_positive (fin true m e) p = absurd p
 root_positive (fin false zero e) p = absurd p
 root_positive (fin false (suc m) e) p = refl
 
-pub sqrt_positive : (v : Float) → T (positive v) → sqrt binary32 v ≡ round binary32 false (root_twice (num v * 2 ^ 4542 / den v)) (2 ^ 2272)
-unfolding sqrt
-sqrt_positive nan p = absurd p
-sqrt_positive (inf s) p = absurd p
-sqrt_positive (fin true m e) p = absurd p
-sqrt_positive (fin false zero e) p = absurd p
-sqrt_positive (fin false (suc m) e) p = refl
-
 units-pos : (b : ℕ) → 0 < b → 0 < units_of b
 units-pos b h = go (ltb b 0x80_0000)
   where
@@ -135,11 +125,8 @@ module _ (b n k q : ℕ) (B : 0 < b) (H : b < 0x7F80_0000) (w : Whole b n k) (f 
   value : HasValue (of_bits binary32 b) false (units_of b) (2 ^ 149)
   value = bits_value b H
 
-  pos : T (positive (of_bits binary32 b))
-  pos = positive_of_value (of_bits binary32 b) (units_of b) (2 ^ 149) value (units-pos b B)
-
   at : root_of (of_bits binary32 b) ≡ Some (round_root binary32 (num (of_bits binary32 b)) (den (of_bits binary32 b)))
-  at = root_positive (of_bits binary32 b) pos
+  at = root_positive (of_bits binary32 b) (positive_of_value (of_bits binary32 b) (units_of b) (2 ^ 149) value (units-pos b B))
 
   scale : num (of_bits binary32 b) * 2 ^ 298 ≡ n * (2 ^ k * 2 ^ k) * den (of_bits binary32 b)
   scale = cross _ _ _ (2 ^ 149) _ (value→cross (of_bits binary32 b) (units_of b) (2 ^ 149) value) w.same
@@ -162,22 +149,3 @@ module _ (b n k q : ℕ) (B : 0 < b) (H : b < 0x7F80_0000) (w : Whole b n k) (f 
     where
       next : (k q : ℕ) → k * 0x80_0000 + suc q ≡ k * 0x80_0000 + q + 1
       next k q = omega arith
-
-  -- `f32::sqrt` gives the same
-  sqrt_same : Some (sqrt binary32 (of_bits binary32 b)) ≡ root_of (of_bits binary32 b)
-  sqrt_same = ap Some (sqrt_positive (of_bits binary32 b) pos) ∙ go (leb n (q * q + q)) refl ∙ sym at
-    where
-      go : (t : Bool) → leb n (q * q + q) ≡ t
-          → Some (round binary32 false (root_twice (num (of_bits binary32 b) * 2 ^ 4542 / den (of_bits binary32 b))) (2 ^ 2272))
-          ≡ Some (round_root binary32 (num (of_bits binary32 b)) (den (of_bits binary32 b)))
-      go true t =
-          let v = of_bits binary32 b in
-          let h = leb-true _ _ t in
-          ap Some (sqrt_down (num v) (den v) n k q (den_pos v) q_low q_high f scale h ∙ sym (root_down (num v) (den v) n k q (den_pos v) q_low q_high f scale h))
-      go false t =
-          let v = of_bits binary32 b in
-          let h = leb-false _ _ t in
-          ap Some (sqrt_up (num v) (den v) n k q (den_pos v) q_low q_high f scale h ∙ sym (root_up (num v) (den v) n k q (den_pos v) q_low q_high f scale h))
-
-pub sqrt_is : (b : ℕ) → 0 < b → b < 0x7F80_0000 → Some (sqrt binary32 (of_bits binary32 b)) ≡ root_of (of_bits binary32 b)
-sqrt_is b B H = let s = some-whole b B H in sqrt_same b s.0 s.1 (isqrt s.0) B H s.2 (isqrt_is s.0)

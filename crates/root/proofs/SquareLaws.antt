@@ -46,3 +46,9 @@ by_floor (suc d) n h = more_floor n (isqrt_by d (n / 4)) (by_floor d (n / 4) (qu
 pub isqrt_is : (n : ℕ) → Floor n (isqrt n)
 unfolding isqrt
 isqrt_is n = by_floor (size n) n (size-lt n)
+
+-- ---- a guess whose square is above n is above 0
+
+pub sq_pos : (n r : ℕ) → n < r * r → 0 < r
+sq_pos n zero h = omega arith
+sq_pos n (suc k) h = omega arith

@@ -14,11 +14,11 @@ use scan::{Least, Lists, Scan};
 use words::{Refusal, has_length};
 
 // The answers' numbers in next's out, as include/lintelkite.h has them.
-const DONE: u32 = 0;
+pub const DONE: u32 = 0;
 
-const ASK: u32 = 1;
+pub const ASK: u32 = 1;
 
-const GIVE: u32 = 2;
+pub const GIVE: u32 = 2;
 
 // What the rule says to do next: ask for a place's distance, hand a place out, or nothing.
 #[derive(Clone, Copy, Debug, PartialEq)]

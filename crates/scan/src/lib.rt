@@ -3,7 +3,7 @@
 #![tactic(auto)]
 
 pub use lists::Lists;
-pub use pass::{Least, Scan};
+pub use pass::{Keys, Least, NO_KEY, Scan, first_at};
 
 mod lists;
 mod pass;

@@ -9,7 +9,7 @@ use crate::lists::Lists;
 
 // Stands for no key in the pass: it is above every key of a number. With an Option for each key the loop over the places takes 2.5 times
 // as long (4,096 places, the loop alone, in Rust).
-const NO_KEY: u32 = 0xFFFF_FFFF;
+pub const NO_KEY: u32 = 0xFFFF_FFFF;
 
 // The places of a stretch: so few that their counts fit a byte.
 const STRETCH: usize = 128;
@@ -42,10 +42,10 @@ fn nan_if(marked: bool, u: u32) -> u32
 
 // How many NaNs there are, and the least keys of a waiting place and of an asked one.
 #[derive(Clone, Copy)]
-struct Keys {
-    missing: u32,
-    waiting: u32,
-    asked: u32,
+pub struct Keys {
+    pub missing: u32,
+    pub waiting: u32,
+    pub asked: u32,
 }
 
 impl Keys {
@@ -224,7 +224,7 @@ impl<'a> Lists<'a> {
 
 // The first place with the mark and the key. A loop and no `find`: its closure would have to state what it tells of a place, and how its
 // captures bound it.
-fn first_at(list: &[u8], marks: &[u8], mark: u8, least: Least) -> Option<usize>
+pub fn first_at(list: &[u8], marks: &[u8], mark: u8, least: Least) -> Option<usize>
     requires { length list.now ≡ 4 * length marks.now }
     ensures { FirstAt (key_at mark list.now marks.now) least.from (length marks.now) least.key result }
 {

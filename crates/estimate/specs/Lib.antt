@@ -1,4 +1,3 @@
 pub mod Estimate
 pub mod Record
-pub mod Parts
 pub mod Calls

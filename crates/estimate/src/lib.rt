@@ -1,16 +1,17 @@
 // Module 7: the rough estimate and the lower bound, of a single code and of the 32 lanes of a block.
 #![tactic(auto)]
 
-ghost use Rattle.std.specs.Prelude.{◌≡◌};
-ghost use Rattle.words.specs.Refusals.{status, RefusedIf};
+ghost use Rattle.std.specs.Prelude.{◌≡◌, cond, IfOk};
+ghost use Rattle.words.specs.Refusals.{status, bad_length, RefusedIf};
 ghost use Rattle.words.specs.declared.refusal.Refusal.TheVariants.{Missing};
-ghost use Rattle.estimate.specs.Calls.{missing_query, code_answer, block_answer};
+ghost use Rattle.estimate.specs.Calls.{missing_query, bad_query, code_answer, block_answer};
 
 use block::parts::block_size;
 use code::parts::code_size;
 use lanes::with_wide_table;
 use planes::{PLANE_WORDS, Planes};
 pub use ready::Ready;
+use sums::QueryCodes;
 use words::{Dims, MOST_DIMS, Metric, Refusal, has_length, put_float};
 
 mod ready;
@@ -42,6 +43,23 @@ impl Query {
             Err(Refusal::Missing)
         }
     }
+
+    // The codes beside it. Refuses another number of codes, and a dis_v_2 below 0 and a code above 15.
+    #[tactic(auto, unfolding(crate::specs::Calls::bad_query))]
+    pub fn judged_codes<'a>(
+        self,
+        dims: Dims<MOST_DIMS>,
+        codes: &'a [u8],
+    ) -> Result<QueryCodes<'a>, Refusal>
+        ensures refused { status result ≡ cond (bad_length codes.now dims) 3 (cond (bad_query self codes.now) 5 0) }
+        ensures codes { IfOk result (λ q. q ≡ codes.now) }
+    {
+        let codes = QueryCodes::judged(dims, codes)?;
+        if self.dis_v_2 < 0.0 {
+            return Err(Refusal::BadValue);
+        }
+        Ok(codes)
+    }
 }
 
 // The number asked for of a single code, as the four bytes of out.
@@ -66,7 +84,8 @@ pub fn code_call(
     let m = Metric::try_from(metric)?;
     let p = Ready::judged(m, v, dims, q)?;
     let mut room = [0u64; PLANE_WORDS];
-    let planes = Planes::binarize(p.codes(), &mut room);
+    let codes = p.codes();
+    let planes = Planes::binarize(&codes, &mut room);
     let e = p.code_estimate(asked, &planes, code);
     if e.is_nan() {
         return Err(Refusal::NoEstimate);
@@ -97,7 +116,7 @@ pub fn block_call(
     let m = Metric::try_from(metric)?;
     let p = Ready::judged(m, v, dims, q)?;
     with_wide_table(
-        p.codes(),
+        &p.codes(),
         &p,
         out,
         |p, table, out| p.put_lanes(asked, table, block, out),

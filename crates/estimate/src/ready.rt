@@ -7,10 +7,9 @@ ghost use Rattle.words.specs.Limits.{most_sum};
 ghost use Rattle.words.specs.Refusals.{status, bad_length};
 ghost use Rattle.code.specs.Code.{code_size};
 ghost use Rattle.block.specs.Block.{block_size};
-ghost use Rattle.sums.specs.Sums.{query_sum};
+ghost use Rattle.sums.specs.Sums.{QueryCodes, query_sum};
 ghost use Rattle.sums.specs.Parts.{LaneSums};
 ghost use Rattle.estimate.specs.Estimate.{halved, estimate, root_float};
-ghost use Rattle.estimate.specs.Parts.{Judged};
 ghost use Rattle.estimate.specs.Record.{code_estimate, lane_words};
 ghost use Rattle.estimate.specs.Calls.{bad_query};
 
@@ -18,34 +17,22 @@ use crate::{Asked, Query};
 use code::parts::reader::{Factors, factors_of, words_of};
 use lanes::WideTable;
 use planes::Planes;
-use std::marker::Model;
 use sums::QueryCodes;
 use words::{Dims, MOST_DIMS, Metric, Refusal, any_nan, f32_at, number_at, put_f32};
 
-// What an estimate needs of a query: its metric and record, root(dis_v_2), and the sum of its codes.
+// A judged query, and what is made of it once: its metric, its record, root(dis_v_2), the sum of its codes, and the codes.
 #[derive(Clone, Copy)]
-struct Numbers {
-    m: Metric,
-    v: Query,
-    root: f32,
-    total: u32,
-    ghost rooted: { root ≡ root_float v.dis_v_2 },
-    ghost fits: { total ≤ most_sum },
-}
-
-// A judged query: its codes, and what is made of them once. Clauses see the metric, the record and the codes.
-#[derive(Drop)]
 pub struct Ready<'a> {
-    numbers: Numbers,
-    codes: QueryCodes<'a>,
-}
-
-impl<'a> Model for Ready<'a> {
-    ghost Value = { Judged };
-
-    ghost view = { λ p. record { m = p.numbers.m; v = p.numbers.v; qs = p.codes } };
-
-    ghost invariant = { λ p. p.numbers.total ≡ query_sum p.codes };
+    pub m: Metric,
+    pub v: Query,
+    pub root: f32,
+    pub total: u32,
+    pub codes: &'a [u8],
+    ghost rooted: { root ≡ root_float v.dis_v_2 },
+    ghost summed: { total ≡ query_sum codes.now },
+    ghost fits: { total ≤ most_sum },
+    ghost some: { 0 < length codes.now },
+    ghost judged: { QueryCodes codes.now },
 }
 
 fn root_of(x: f32) -> f32
@@ -74,13 +61,46 @@ fn float_of(n: u32) -> f32
     (n % 0x100_0000) as f32
 }
 
-impl Numbers {
+impl<'a> Ready<'a> {
+    // Of codes that are judged. Where dis_v_2 has no root, root is a NaN.
+    pub fn of(m: Metric, v: Query, codes: QueryCodes<'a>) -> Ready<'a>
+        ensures { (result.m ≡ m) × (result.v ≡ v) × (result.codes.now ≡ codes.entry) }
+    {
+        Ready {
+            m,
+            v,
+            root: root_of(v.dis_v_2),
+            total: codes.total(),
+            codes: codes.as_slice(),
+        }
+    }
+
+    // Refuses another number of codes, and a dis_v_2 below 0 and a code above 15.
+    pub fn judged(
+        m: Metric,
+        v: Query,
+        dims: Dims<MOST_DIMS>,
+        codes: &'a [u8],
+    ) -> Result<Ready<'a>, Refusal>
+        ensures refused { status result ≡ cond (bad_length codes.now dims) 3 (cond (bad_query v codes.now) 5 0) }
+        ensures query { IfOk result (λ p. (p.m ≡ m) × (p.v ≡ v) × (p.codes.now ≡ codes.now)) }
+    {
+        let codes = v.judged_codes(dims, codes)?;
+        Ok(Ready::of(m, v, codes))
+    }
+
+    pub fn codes(&self) -> QueryCodes<'a>
+        ensures { result ≡ self.now.codes.now }
+    {
+        QueryCodes::of(self.codes)
+    }
+
     // The number asked for of a record with the factors f and the sum s: `process` of the Rust, and `process_lowerbound` with its
     // epsilon of 1.9.
     #[tactic(auto, unfolding(crate::specs::Estimate::estimate, crate::specs::Estimate::lower_bound, crate::specs::Estimate::err, crate::specs::Estimate::rough, crate::specs::Estimate::ppc_term, crate::specs::Estimate::ip_term, crate::specs::Estimate::two_s_minus_q))]
     fn estimate(self, asked: Asked, f: Factors, s: u32) -> f32
         requires { s ≤ most_sum }
-        ensures { result ≡ estimate asked self.m self.v f s self.total }
+        ensures { result ≡ estimate asked self.entry.m self.entry.v f s self.entry.total }
     {
         let m = self.m;
         let v = self.v;
@@ -96,47 +116,15 @@ impl Numbers {
             Asked::LowerBound => rough - 1.9 * halved(m, f.factor_err * self.root),
         }
     }
-}
-
-impl<'a> Ready<'a> {
-    // Refuses another number of codes, and a dis_v_2 below 0 and a code above 15.
-    #[tactic(auto, unfolding(crate::specs::Calls::bad_query))]
-    pub fn judged(
-        m: Metric,
-        v: Query,
-        dims: Dims<MOST_DIMS>,
-        codes: &'a [u8],
-    ) -> Result<Ready<'a>, Refusal>
-        ensures refused { status result ≡ cond (bad_length codes.now dims) 3 (cond (bad_query v codes.now) 5 0) }
-        ensures query { IfOk result (λ p. p ≡ record { m = m; v = v; qs = codes.now }) }
-    {
-        let codes = QueryCodes::judged(dims, codes)?;
-        if v.dis_v_2 < 0.0 {
-            return Err(Refusal::BadValue);
-        }
-        let numbers = Numbers {
-            m,
-            v,
-            root: root_of(v.dis_v_2),
-            total: codes.total(),
-        };
-        Ok(Ready { numbers, codes })
-    }
-
-    pub fn codes(&self) -> &QueryCodes<'a>
-        ensures { result.now ≡ self.now.qs }
-    {
-        &self.codes
-    }
 
     // The number asked for of a single code, from the query's planes.
     pub fn code_estimate(&self, asked: Asked, planes: &Planes, code: &[u8]) -> f32
-        requires { (planes.now ≡ self.now.qs) × (length code.now ≡ code_size (length self.now.qs)) }
-        ensures { result ≡ code_estimate asked self.now.m self.now.v self.now.qs code.now }
+        requires { (planes.now ≡ self.now.codes.now) × (length code.now ≡ code_size (length self.now.codes.now)) }
+        ensures { result ≡ code_estimate asked self.now.m self.now.v self.now.codes.now code.now }
     {
         let f = factors_of(code);
         let s = planes.asymmetric_binary_dot_product(words_of(code));
-        self.numbers.estimate(asked, f, s)
+        self.estimate(asked, f, s)
     }
 
     // Those of the 32 lanes of a block from their sums, four bytes each. `float` reads a float of the block by its place.
@@ -148,13 +136,13 @@ impl<'a> Ready<'a> {
         float: F,
         out: &mut [u8],
     )
-        requires sums { LaneSums self.now.qs block.now s.now × (length out.old ≡ 128) }
+        requires sums { LaneSums self.now.codes.now block.now s.now × (length out.old ≡ 128) }
         requires callable { (i : ℕ) → i < 128 → F.pre float i }
         requires reads { (i : ℕ) (x : _) → i < 128 → F.post float i x → x ≡ f32_at block.now i }
-        ensures { out.new ≡ lane_words asked self.now.m self.now.v self.now.qs block.now }
+        ensures { out.new ≡ lane_words asked self.now.m self.now.v self.now.codes.now block.now }
     {
         // A copy, which no store to out can change: so it is read once for all lanes.
-        let numbers = self.numbers;
+        let p = *self;
         for (k, sum) in s.iter().enumerate() {
             let f = Factors {
                 dis_u_2: float(k),
@@ -162,7 +150,7 @@ impl<'a> Ready<'a> {
                 factor_ip: float(64 + k),
                 factor_err: float(96 + k),
             };
-            put_f32(out, 4 * k, numbers.estimate(asked, f, *sum));
+            put_f32(out, 4 * k, p.estimate(asked, f, *sum));
         }
     }
 
@@ -170,8 +158,8 @@ impl<'a> Ready<'a> {
     // a plain part of the caller's records, judged by its length alone; a type for it would hold nothing else. So is out.
     #[tactic(auto, using(crate::proofs::EstimateLaws::number_factor))]
     pub fn put_lanes(&self, asked: Asked, table: &WideTable, block: &[u8], out: &mut [u8])
-        requires { (table.now ≡ self.now.qs) × (length block.now ≡ block_size (length self.now.qs)) × (length out.old ≡ 128) }
-        ensures { out.new ≡ lane_words asked self.now.m self.now.v self.now.qs block.now }
+        requires { (table.now ≡ self.now.codes.now) × (length block.now ≡ block_size (length self.now.codes.now)) × (length out.old ≡ 128) }
+        ensures { out.new ≡ lane_words asked self.now.m self.now.v self.now.codes.now block.now }
     {
         let s = table.lane_sums(block);
         if any_nan(block, 128) {

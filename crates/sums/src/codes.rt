@@ -25,6 +25,16 @@ impl<'a> Model for QueryCodes<'a> {
 }
 
 impl<'a> QueryCodes<'a> {
+    // Of codes that are known to be such.
+    #[tactic(auto, unfolding(words::specs::Refusals::bad_dims))]
+    pub fn of(codes: &'a [u8]) -> QueryCodes<'a>
+        requires { (0 < length codes.now) × sums.QueryCodes codes.now }
+        ensures { result ≡ codes.now }
+    {
+        let dims = Dims::try_from(codes.len() as u32).unwrap();
+        QueryCodes { dims, codes }
+    }
+
     // Refuses another number of codes, and a code above 15.
     #[tactic(auto, using(crate::proofs::CallLaws::query))]
     pub fn judged(dims: Dims<MOST_DIMS>, codes: &'a [u8]) -> Result<QueryCodes<'a>, Refusal>
@@ -44,7 +54,7 @@ impl<'a> QueryCodes<'a> {
         self.dims
     }
 
-    pub fn as_slice(&self) -> &[u8]
+    pub fn as_slice(&self) -> &'a [u8]
         ensures same { result.now ≡ self.now }
         ensures judged { sums.QueryCodes self.now }
     {

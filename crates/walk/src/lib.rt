@@ -29,8 +29,8 @@ fn put_ids(ids: &mut [u8], start: u32, end: u32)
 }
 
 // The ids of a range with their lower bounds, marks 0, and the count. The bounds go to a buffer of the walk's own, so that
-// nothing is written before all of them are known to be numbers. The metric, the dims and the query are judged in the paper's order, with
-// lengths between, so they are no struct.
+// nothing is written before all of them are known to be numbers. What is made of the query is made once, and not for an empty range.
+// The metric, the dims and the query are judged in the paper's order, with lengths between, so they are no struct.
 #[tactic(auto, using(crate::proofs::WalkLaws::put_front), unfolding(crate::specs::Walk::walk_answer, crate::specs::Walk::walk_number, crate::specs::Walk::bad_lengths, crate::specs::Walk::bad_records, crate::specs::Walk::bad_outs, crate::specs::Walk::out_of_range, crate::specs::Walk::range_number, estimate::specs::Calls::query_number, words::specs::Refusals::or_else, words::specs::Refusals::after, words::specs::Refusals::bad_length))]
 pub fn walk(
     metric: u32,
@@ -68,7 +68,7 @@ pub fn walk(
     v.has_numbers()?;
     let layout = layout?;
     let metric = Metric::try_from(metric)?;
-    let query = Ready::judged(metric, v, dims, q)?;
+    let codes = v.judged_codes(dims, q)?;
     let c = end.saturating_sub(start) as usize;
     if start < end && n < end as usize {
         return Err(Refusal::OutOfRange);
@@ -76,8 +76,12 @@ pub fn walk(
     if marks.len() < c {
         return Err(Refusal::NoRoom);
     }
+    if c == 0 {
+        put_number(count, 0);
+        return Ok(());
+    }
     let wanted = Wanted {
-        query,
+        query: Ready::of(metric, v, codes),
         layout,
         records,
         n,

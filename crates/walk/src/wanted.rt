@@ -19,7 +19,7 @@ use words::{MOST_PLACES, Refusal, any_nan, put_f32};
 // Room for the bounds of every lane of the blocks that the most ids reach into.
 pub const ROOM: usize = 128 * ((MOST_PLACES + 62) / 32);
 
-// The ids that a walk asks for: c from start on, all of them among the n records.
+// The ids that a walk asks for: c from start on, at least one, all of them among the n records.
 #[derive(Drop)]
 pub struct Wanted<'a> {
     pub query: Ready<'a>,
@@ -29,8 +29,9 @@ pub struct Wanted<'a> {
     pub start: usize,
     pub c: usize,
     ghost few: { n ≤ most_records },
-    ghost sized: { length records.now ≡ records_size layout (length query.qs) n },
-    ghost inside: { 0 < c → start + c ≤ n },
+    ghost sized: { length records.now ≡ records_size layout (length query.codes.now) n },
+    ghost some: { 0 < c },
+    ghost inside: { start + c ≤ n },
     ghost places: { c ≤ most_places },
 }
 
@@ -48,12 +49,12 @@ impl<'a> Wanted<'a> {
     fn fill_codes(&self, buf: &mut [u8])
         requires layout { self.now.layout ≡ Layout.Single }
         requires room { 4 * self.now.c ≤ length buf.old }
-        ensures { let w = self.now in take (4 * w.c) buf.new ≡ bound_words Layout.Single w.query.m w.query.v w.query.qs w.records.now w.start w.c }
+        ensures { let w = self.now in take (4 * w.c) buf.new ≡ bound_words Layout.Single w.query.m w.query.v w.query.codes.now w.records.now w.start w.c }
     {
         let q = self.query.codes();
         let size = code_size(q.dims());
         let mut room = [0u64; PLANE_WORDS];
-        let planes = Planes::binarize(q, &mut room);
+        let planes = Planes::binarize(&q, &mut room);
         for i in 0..self.c {
             let code = record_at(self.records, size, self.start + i);
             let bound = self.query.code_estimate(Asked::LowerBound, &planes, code);
@@ -63,11 +64,11 @@ impl<'a> Wanted<'a> {
 
     // The bounds of all lanes of the blocks that the ids reach into: each block is summed once.
     fn fill_blocks(&self, table: &WideTable, buf: &mut [u8])
-        requires wanted { (self.now.layout ≡ Layout.Blocks) × (0 < self.now.c) }
-        requires table { table.now ≡ self.now.query.qs }
+        requires layout { self.now.layout ≡ Layout.Blocks }
+        requires table { table.now ≡ self.now.query.codes.now }
         requires room { room_of self.now.c ≤ length buf.old }
         ensures { let w = self.now in let count = (w.start % 32 + w.c + 31) / 32 in take (128 * count) buf.new
-            ≡ bound_words Layout.Blocks w.query.m w.query.v w.query.qs w.records.now (32 * (w.start / 32)) (32 * count) }
+            ≡ bound_words Layout.Blocks w.query.m w.query.v w.query.codes.now w.records.now (32 * (w.start / 32)) (32 * count) }
     {
         let size = block_size(self.query.codes().dims());
         let count = (self.start % 32 + self.c).div_ceil(32);
@@ -82,11 +83,8 @@ impl<'a> Wanted<'a> {
     // The bounds of the ids, four bytes each, worked out in buf.
     #[tactic(auto, using(crate::proofs::WalkLaws::wanted))]
     fn fill<'b>(&self, buf: &'b mut [u8; ROOM]) -> &'b [u8]
-        ensures { let w = self.now in result.now ≡ bound_words w.layout w.query.m w.query.v w.query.qs w.records.now w.start w.c }
+        ensures { let w = self.now in result.now ≡ bound_words w.layout w.query.m w.query.v w.query.codes.now w.records.now w.start w.c }
     {
-        if self.c == 0 {
-            return &buf[0..0];
-        }
         match self.layout {
             Layout::Single => {
                 self.fill_codes(buf);
@@ -94,7 +92,7 @@ impl<'a> Wanted<'a> {
             }
             Layout::Blocks => {
                 with_wide_table(
-                    self.query.codes(),
+                    &self.query.codes(),
                     self,
                     buf,
                     |w, table, buf| w.fill_blocks(table, buf),
@@ -108,8 +106,8 @@ impl<'a> Wanted<'a> {
     // The same. Refuses a NaN among them.
     pub fn bounds<'b>(&self, buf: &'b mut [u8; ROOM]) -> Result<&'b [u8], Refusal>
         ensures refused { let w = self.now in
-            RefusedIf (any_below w.c (λ j. is_nan (bound_of w.layout w.query.m w.query.v w.query.qs w.records.now (w.start + j)))) NoEstimate result }
-        ensures bounds { let w = self.now in IfOk result (λ r. r.now ≡ bound_words w.layout w.query.m w.query.v w.query.qs w.records.now w.start w.c) }
+            RefusedIf (any_below w.c (λ j. is_nan (bound_of w.layout w.query.m w.query.v w.query.codes.now w.records.now (w.start + j)))) NoEstimate result }
+        ensures bounds { let w = self.now in IfOk result (λ r. r.now ≡ bound_words w.layout w.query.m w.query.v w.query.codes.now w.records.now w.start w.c) }
         ensures size { IfOk result (λ r. length r.now ≡ 4 * self.now.c) }
     {
         let bounds = self.fill(buf);

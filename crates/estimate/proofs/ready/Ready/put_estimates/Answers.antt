@@ -1,11 +1,8 @@
 -- `estimate::ready::Ready::put_estimates` meets its contract. Assumes nothing.
-use mathlib.Core.Path.{◌≡◌, ap, ◌∙◌}
+use mathlib.Core.Path.{◌≡◌}
 use Prim.Native.Nat.{◌+◌}
 use native.Mathlib.Omega.{arith}
 use Rattle.words.proofs.WordsLaws.{words_none}
-use Rattle.sums.specs.Sums.{query_sum}
-use Rattle.estimate.specs.Parts.{Judged}
-use Rattle.estimate.specs.Record.{lane_words}
 use Rattle.estimate.proofs.EstimateLaws.{lane_more, lanes_written}
 use Rattle.estimate.proofs.ready.Ready.put_estimates.Goals as goal
 
@@ -16,12 +13,13 @@ pub loop-k-preserved : goal.loop-k-preserved
 loop-k-preserved g c =
     let k = c.loop-k.k in
     let r = c.requires.reads in
-    let total = c.self.invariant ∙ ap (λ (p : Judged). query_sum p.qs) c.self.view_is in
     lane_more _ _ _ _ _ c.args.s.now _ _ k _ _ _ _ _ c.requires.sums.0 c.loop-k.invariant c.loop-k-test.true (r k _ (omega arith) c.float.ensures)
     (r (32 + k) _ (omega arith) c.float-in-loop-k.ensures) (r (64 + k) _ (omega arith) c.float-in-loop-k-2.ensures)
-    (r (96 + k) _ (omega arith) c.float-in-loop-k-3.ensures) (rw total at c.estimate.ensures) c.put_f32.ensures
+    (r (96 + k) _ (omega arith) c.float-in-loop-k-3.ensures) (rw c.args.self.now.summed at c.estimate.ensures) c.put_f32.ensures
 
 pub returns : goal.returns
 returns g c =
     let e : c.loop-k.k ≡ 32 = omega arith in
-    lanes_written _ _ _ _ _ _ (rw e at c.loop-k.invariant) ∙ ap (λ (p : Judged). lane_words c.args.asked p.m p.v c.args.self.now.qs c.args.block.now) c.self.view_is
+    let a = c.args in
+    let p = a.self.now in
+    lanes_written a.asked p.m p.v p.codes.now a.block.now c.loop-k.out (rw e at c.loop-k.invariant)

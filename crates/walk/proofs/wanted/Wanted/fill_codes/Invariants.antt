@@ -10,4 +10,4 @@ use Rattle.walk.proofs.wanted.Wanted.fill_codes.Given as goal
 abbrev pub invariant-loop-i : goal.invariant-loop-i
 invariant-loop-i l =
     let w = l.self in
-    take (4 * l.i) l.buf ≡ floats_of l.i (λ j. bound_of Single w.query.m w.query.v w.query.qs w.records.now (w.start + j))
+    take (4 * l.i) l.buf ≡ floats_of l.i (λ j. bound_of Single w.query.m w.query.v w.query.codes.now w.records.now (w.start + j))

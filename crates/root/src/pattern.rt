@@ -42,15 +42,15 @@ fn take_apart(b: u32) -> Parts
     ensures { IsParts b result.m result.e }
 {
     if b < 0x80_0000 {
-        let s = u32::leading_zeros(b) - 8;
+        let s = b.leading_zeros() - 8;
         return Parts {
-            m: (b as u64) << s,
-            e: 149 - s as u64,
+            m: u64::from(b) << s,
+            e: 149 - u64::from(s),
         };
     }
     Parts {
-        m: (b % 0x80_0000 + 0x80_0000) as u64,
-        e: (b / 0x80_0000) as u64 + 148,
+        m: u64::from(b % 0x80_0000 + 0x80_0000),
+        e: u64::from(b / 0x80_0000) + 148,
     }
 }
 

@@ -5,3 +5,4 @@ pub mod PatternLaws
 pub mod CaseLaws
 pub mod NearestLaws
 pub mod GuessLaws
+pub mod BitsLaws

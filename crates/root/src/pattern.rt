@@ -42,15 +42,15 @@ fn take_apart(b: u32) -> Parts
     ensures { IsParts b result.m result.e }
 {
     if b < 0x80_0000 {
-        let s = u32::leading_zeros(b) - 8;
+        let s = b.leading_zeros() - 8;
         return Parts {
-            m: (b as u64) << s,
-            e: 149 - s as u64,
+            m: u64::from(b) << s,
+            e: 149 - u64::from(s),
         };
     }
     Parts {
-        m: (b % 0x80_0000 + 0x80_0000) as u64,
-        e: (b / 0x80_0000) as u64 + 148,
+        m: u64::from(b % 0x80_0000 + 0x80_0000),
+        e: u64::from(b / 0x80_0000) + 148,
     }
 }
 
@@ -73,6 +73,7 @@ fn even(p: Parts) -> Scaled
 
 // The pattern of the root of the positive number whose pattern is b. There is no tie: n is a whole number, and the square
 // of q + 1/2 is none. So the root of n is above q + 1/2 just where n is above q * q + q.
+#[tactic(auto, using(crate::proofs::BitsLaws::bits_up, crate::proofs::BitsLaws::bits_down))]
 pub fn root_bits(b: u32) -> u32
     requires { (0 < b) × (b < 0x7F80_0000) }
     ensures { (result < 0x7F80_0000) × (root_of (of_bits binary32 b) ≡ Some (of_bits binary32 result)) }

@@ -28,6 +28,16 @@ fn put_ids(ids: &mut [u8], start: u32, end: u32)
     }
 }
 
+// The bounds that were found, in the first places. A loop: by copy_from_slice the archive would ask for memmove, which no other call needs.
+fn put_bounds(bounds: &mut [u8], found: &[u8])
+    requires { length found.now ≤ length bounds.old }
+    ensures { bounds.new ≡ found.now ++ drop (length found.now) bounds.old }
+{
+    for (i, byte) in found.iter().enumerate() {
+        bounds[i] = *byte;
+    }
+}
+
 // The ids of a range with their lower bounds, marks 0, and the count. The bounds go to a buffer of the walk's own, so that
 // nothing is written before all of them are known to be numbers. What is made of the query is made once, and not for an empty range.
 // The metric, the dims and the query are judged in the paper's order, with lengths between, so they are no struct.
@@ -91,7 +101,7 @@ pub fn walk(
     let mut buf = [0u8; ROOM];
     let found = wanted.bounds(&mut buf)?;
     put_ids(ids, start, end);
-    bounds[0..4 * c].copy_from_slice(found);
+    put_bounds(bounds, found);
     marks[0..c].fill(WAITING);
     put_number(count, c as u32);
     Ok(())

@@ -1,7 +1,7 @@
 -- `planes::parts::digits` meets its contract. Assumes nothing.
 use mathlib.Core.Path.{refl, sym, ap, ◌∙◌}
 use mathlib.Core.Logic.{⊎_elim}
-use Prim.Native.Nat.{ℕ}
+use Prim.Native.Nat.{ℕ, ◌<◌}
 use native.Mathlib.Omega.{arith}
 use borrow.Author.Count.{below_none}
 use lib.ListN.{length, get_or, length-set, get_or-eq_default}
@@ -18,9 +18,10 @@ pub loop-i-preserved : goal.loop-i-preserved
 unfolding bit
 loop-i-preserved c =
     let a = c.args in
-    let l = c.loop-i in (
+    let l = c.loop-i in
+    let byte : get_or a.q.now l.i 0 < 256 = omega (arith, c.type_inv.q l.i) in (
       simp length-set l.invariant.0,
-      filled_more (λ k. bit (get_or a.q.now k 0) a.p) l.d l.i _ (omega arith) l.invariant.1 refl,
+      filled_more (λ k. bit (get_or a.q.now k 0) a.p) l.d l.i _ (omega arith) l.invariant.1 (grind arith),
       rest_more a.d.now l.d l.i _ l.invariant.2,
     )
 

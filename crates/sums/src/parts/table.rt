@@ -41,11 +41,13 @@ fn entry(codes: &[u8; 4], m: u8) -> u8
 }
 
 // The 16 entries of a group with these codes.
-fn entries(codes: &[u8; 4]) -> [u8; 16]
-    requires { (b : ℕ) → b < 4 → get_or codes.now b 0 ≤ top_code }
-    ensures { Each 16 (λ m. group_sum codes.now 0 m) result }
+fn fill_group(codes: &[u8; 4], part: &mut [u8])
+    requires { ((b : ℕ) → b < 4 → get_or codes.now b 0 ≤ top_code) × (length part.old ≡ 16) }
+    ensures { Each 16 (λ m. group_sum codes.now 0 m) part.new }
 {
-    array::from_fn(|m| entry(codes, m as u8))
+    for (m, byte) in part.iter_mut().enumerate() {
+        *byte = entry(codes, m as u8);
+    }
 }
 
 // The table of a query, in a buffer of its size or a longer one: entry m of group g at 16g + m. The Rust's `gen`.
@@ -56,7 +58,7 @@ pub fn gen_table(q: &[u8], t: &mut [u8])
     let n = q.len().div_ceil(4);
     for g in 0..n {
         let codes = group_codes(q, g);
-        t[16 * g..16 * g + 16].copy_from_slice(&entries(&codes));
+        fill_group(&codes, &mut t[16 * g..16 * g + 16]);
     }
 }
 

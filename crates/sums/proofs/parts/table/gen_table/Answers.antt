@@ -37,12 +37,11 @@ loop-g-preserved c =
     let a = c.args in
     let g = c.loop-g.g in
     let codes = c.group_codes-codes in
-    let es = c.entries in
-    let entry : (m : ℕ) → m < 16 → get_or es.result m 0 ≡ group_sum a.q.now ((16 * g + m) / 16) ((16 * g + m) % 16) = λ m l.
+    let group = c.fill_group.ensures in
+    let entry : (m : ℕ) → m < 16 → get_or c.fill_group.new.part m 0 ≡ group_sum a.q.now ((16 * g + m) / 16) ((16 * g + m) % 16) = λ m l.
     let high : g ≡ (16 * g + m) / 16 = omega arith in
     let low : m ≡ (16 * g + m) % 16 = omega arith in
-    es.ensures.each m l ∙ of_codes a.q.now codes.result g m codes.ensures ∙ ap₂ (λ (x y : ℕ). group_sum a.q.now x y) high low in (
+    group.each m l ∙ of_codes a.q.now codes.result g m codes.ensures ∙ ap₂ (λ (x y : ℕ). group_sum a.q.now x y) high low in (
       search rules,
-      λ i l. rw c.copy_from_slice.ensures.after
-          (put_group (λ k. group_sum a.q.now (k / 16) (k % 16)) c.loop-g.t es.result g i (omega arith) es.ensures.long c.loop-g.invariant.1 entry l),
+      λ i l. put_group (λ k. group_sum a.q.now (k / 16) (k % 16)) c.loop-g.t c.fill_group.new.part g i (omega arith) group.long c.loop-g.invariant.1 entry l,
     )

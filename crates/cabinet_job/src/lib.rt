@@ -50,7 +50,7 @@ where
     let job = Job::read(&mut records)?;
     let mut lists = Lists::read(&job, &mut records)?;
     let ranking = order::rank(&mut distances, wanted, &mut lists)?;
-    let _ = ranking.print(rt, &lists);
+    ranking.print(rt, &lists);
     Ok(())
 }
 

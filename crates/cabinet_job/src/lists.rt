@@ -4,7 +4,7 @@ ghost use Rattle.words.specs.Limits.{most_places};
 
 use crate::fault::Fault;
 use crate::job::Job;
-use rerank::Answer;
+use lintelkite::Answer;
 use std::io::Read;
 use words::{MOST_PLACES, Refusal};
 

@@ -4,6 +4,7 @@ ghost use Rattle.std.specs.Prelude.{◌^◌, ◌<◌, ◌≤◌};
 use std::fmt;
 
 // A float, shown in decimal, exactly unless that ends in two points, and with its bits. `{}` of an f32 would show the shortest decimal.
+// A NaN has the bits that the lists write for it.
 #[derive(Clone, Copy, Debug, PartialEq)]
 pub struct Decimal(pub f32);
 
@@ -11,7 +12,7 @@ impl fmt::Display for Decimal {
     fn fmt<W: fmt::Write>(&self, f: &mut fmt::Formatter<W>) -> fmt::Result {
         let x = self.0;
         if x.is_nan() {
-            return f.write_str("NaN");
+            return f.write_str("NaN (0x7fc00000)");
         }
         let bits = x.to_bits();
         if 0x8000_0000 <= bits {

@@ -19,6 +19,7 @@ use job::Job;
 use lists::Lists;
 use std::env::{Env, FillError};
 use std::fs;
+use std::io::Seek;
 use std::os::unix::fs::FileExt;
 use std::rt::Files;
 
@@ -39,7 +40,6 @@ where
     }
 }
 
-// Nothing is printed before the end, so that a damaged file gets no part of a ranking.
 fn rank<R: Env + Files + Print>(rt: &R) -> Result<(), Fault>
 where
     R::File: FileExt,
@@ -48,9 +48,21 @@ where
     let mut distances = opened(rt, 2, Fault::NoDistances)?;
     let wanted = wanted(rt)?;
     let job = Job::read(&mut records)?;
-    let mut lists = Lists::read(&job, &mut records)?;
-    let ranking = order::rank(&mut distances, wanted, &mut lists)?;
-    let _ = ranking.print(rt, &lists);
+    let mut lists = Lists::new();
+    lists.read(&job, &mut records)?;
+    rank_lists(rt, &mut distances, wanted, &mut lists)
+}
+
+// Nothing is printed before the end, so that a damaged file gets no part of a ranking. In rank itself, the ranking's room on the stack
+// would be taken during the walks too.
+fn rank_lists<F: Seek + FileExt>(
+    rt: &impl Print,
+    distances: &mut F,
+    wanted: usize,
+    lists: &mut Lists,
+) -> Result<(), Fault> {
+    let ranking = order::rank(distances, wanted, lists)?;
+    ranking.print(rt, lists);
     Ok(())
 }
 

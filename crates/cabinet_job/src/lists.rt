@@ -1,10 +1,10 @@
 // The candidates, as the library wants them: lists with a place for each.
-ghost use Rattle.std.specs.Prelude.{◌≡◌, ◌+◌, ◌^◌, ◌<◌, ◌≤◌, OnOk, IfOk};
+ghost use Rattle.std.specs.Prelude.{◌≡◌, ◌+◌, ◌^◌, ◌<◌, ◌≤◌, OnOk};
 ghost use Rattle.words.specs.Limits.{most_places};
 
 use crate::fault::Fault;
 use crate::job::Job;
-use rerank::Answer;
+use lintelkite::Answer;
 use std::io::Read;
 use words::{MOST_PLACES, Refusal};
 
@@ -69,19 +69,27 @@ impl Lists {
         Ok(())
     }
 
-    // All blocks, one after the other; the file ends with the last one. Every record becomes a candidate.
-    pub fn read(job: &Job, records: &mut impl Read) -> Result<Lists, Fault>
-        ensures { IfOk result (λ lists. lists.len ≡ job.now.header.n) }
+    // No candidate yet.
+    pub fn new() -> Lists
+        ensures { result.len ≡ 0 }
     {
-        let mut lists = Lists {
+        Lists {
             len: 0,
             ids: [0; 4 * MOST_PLACES],
             bounds: [0; 4 * MOST_PLACES],
             distances: [0; 4 * MOST_PLACES],
             marks: [0; MOST_PLACES],
-        };
+        }
+    }
+
+    // All blocks, one after the other; the file ends with the last one. Every record becomes a candidate. The lists are lent: a Result
+    // with them in it would take their room on the stack again.
+    pub fn read(&mut self, job: &Job, records: &mut impl Read) -> Result<(), Fault>
+        ensures { OnOk result (self.new.len ≡ job.now.header.n) }
+    {
+        self.len = 0;
         // a walk over no record at all judges what doesn't depend on one: the metric, the dims and the query
-        lists.walk(job, b"", 0).map_err(Fault::Query)?;
+        self.walk(job, b"", 0).map_err(Fault::Query)?;
         let n = job.header.n as usize;
         // no heap: room for the longest block
         let mut block = [0u8; 18000];
@@ -91,14 +99,13 @@ impl Lists {
             records
                 .read_exact(block)
                 .map_err(|_| Fault::ShortBlock(first))?;
-            lists
-                .walk(job, block, m)
+            self.walk(job, block, m)
                 .map_err(|why| Fault::Block(first, why))?;
         }
         if records.read_exact(&mut [0]).is_ok() {
             return Err(Fault::Longer);
         }
-        Ok(lists)
+        Ok(())
     }
 
     // The record of a place. A walk counts from the first record of its block, and the blocks before it had 32 records each.

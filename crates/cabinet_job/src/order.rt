@@ -5,8 +5,7 @@ use crate::decimal::Decimal;
 use crate::fault::Fault;
 use crate::lists::Lists;
 use arrayvec::ArrayVec;
-use rerank::Answer;
-use std::io;
+use lintelkite::Answer;
 use std::io::{Seek, SeekFrom};
 use std::os::unix::fs::FileExt;
 use words::MOST_PLACES;
@@ -67,18 +66,19 @@ pub fn rank<F: Seek + FileExt>(
 }
 
 impl Ranking {
-    pub fn print(&self, rt: &impl Print, lists: &Lists) -> io::Result<()> {
+    // A write that fails is passed over, and the next line is written.
+    pub fn print(&self, rt: &impl Print, lists: &Lists) {
         for (i, one) in self.given.iter().enumerate() {
             let record = lists.record(one.place);
             let distance = Decimal(one.distance);
-            println!(rt; "{}. record {record} at {distance}", i + 1)?;
+            let _ = println!(rt; "{}. record {record} at {distance}", i + 1);
         }
-        println!(rt;
+        let _ = println!(rt;
             "{} of {} candidates given, {} distances read, {} spared",
             self.given.len(),
             lists.len,
             self.read,
             lists.waiting(),
-        )
+        );
     }
 }

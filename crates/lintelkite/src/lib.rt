@@ -20,6 +20,9 @@ ghost use Rattle.rerank.specs.Calls as rerank;
 use estimate::{Asked, Query};
 use words::Refusal;
 
+// What lk_rerank_next's out says, read back. A type: its promise is its own.
+pub use rerank::Answer;
+
 // ---- sizes
 
 pub fn lk_digits_size(dims: u32, bits: u32, out: &mut [u8]) -> Result<(), Refusal>

@@ -1,4 +1,6 @@
 // A line of the list: its parts, and the call that it describes.
+ghost use Rattle.std.specs.Prelude.{◌<◌, ◌≤◌, length, IfSome, IfOk};
+
 use crate::calls::Call;
 use std::alloc::{AllocError, AllocFailed, Global};
 use std::error::Error;
@@ -54,7 +56,9 @@ pub fn name(line: &[u8]) -> &[u8] {
 }
 
 // The value of a digit, of either base. Capitals are none: `to_digit` would take them.
-fn digit(c: u8) -> Option<u8> {
+fn digit(c: u8) -> Option<u8>
+    ensures { IfSome result (λ d. d < 16) }
+{
     match c {
         b'0'..=b'9' => Some(c - b'0'),
         b'a'..=b'f' => Some(c - b'a' + 10),
@@ -80,8 +84,10 @@ fn byte_of(two: &[u8]) -> u8 {
     value(0).wrapping_mul(16).wrapping_add(value(1))
 }
 
-// The bytes whose digits stand at the start, up to the closing bracket.
-fn buffer(alloc: Global, digits: &[u8]) -> Result<Vec<u8>, AllocError> {
+// The bytes whose digits stand at the start, up to the closing bracket, and no more than the longest buffer has.
+fn buffer(alloc: Global, digits: &[u8]) -> Result<Vec<u8>, AllocError>
+    ensures { IfOk result (λ bytes. length bytes.items ≤ MOST_BYTES) }
+{
     digits
         .chunks(2)
         .take_while(|two| !two.starts_with(b"]"))

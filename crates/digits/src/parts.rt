@@ -18,14 +18,18 @@ pub fn packed_size(w: Width, dims: Dims<MOST_SCALAR_DIMS>) -> usize
     (dims.get() * w.bits()).div_ceil(8)
 }
 
-// Of codes of BITS bits: how many there are, the greatest, and how many stand in a byte. The last two are the width's constants: BITS picks
-// them where the instance is compiled. The first, one more than the greatest, is a shift: picked in the same way, it is known too late for the
-// loop over a row of a table, which then takes twice as long at four bits.
+// Of codes of BITS bits: how many there are, the greatest, and how many stand in a byte. Each is the width's constant: BITS picks it where
+// the instance is compiled.
 pub fn levels<const BITS: u32>() -> u16
     requires { is_width BITS ≡ true }
     ensures { (result ≡ levels BITS) × (result ≤ 256) }
 {
-    1 << BITS
+    match BITS {
+        1 => Width::LEVELS_1 as u16,
+        2 => Width::LEVELS_2 as u16,
+        4 => Width::LEVELS_4 as u16,
+        _ => Width::LEVELS_8 as u16,
+    }
 }
 
 pub fn top<const BITS: u32>() -> u8

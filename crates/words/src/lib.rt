@@ -167,16 +167,14 @@ pub fn put_u64(out: &mut [u8], at: usize, x: u64)
     out[at..at + 8].copy_from_slice(&x.to_le_bytes());
 }
 
-// The four bytes of a float, from place at on. A NaN is written as the one pattern 0x7FC0_0000.
+// The four bytes of a float, from place at on. A NaN is written as the one pattern 0x7FC0_0000. One store for both: where there were two,
+// no loop over floats went by vectors.
 pub fn put_f32(out: &mut [u8], at: usize, x: f32)
     requires { at + 4 ≤ length out.old }
     ensures { out.new ≡ sets out.old at (float_bytes x) }
 {
-    if x.is_nan() {
-        put_u32(out, at, 0x7FC0_0000);
-    } else {
-        put_u32(out, at, x.to_bits());
-    }
+    let pattern = if x.is_nan() { 0x7FC0_0000 } else { x.to_bits() };
+    put_u32(out, at, pattern);
 }
 
 // A 32-bit number as a whole buffer.

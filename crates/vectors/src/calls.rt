@@ -1,4 +1,6 @@
 // The calls of include/lintelkite.h.
+ghost use Rattle.std.specs.Prelude.{◌≤◌};
+
 use words::Refusal;
 
 #[derive(Clone, Copy, Debug, PartialEq, Eq, PartialOrd, Ord)]
@@ -65,8 +67,32 @@ impl Call {
             .map(|(_, call)| call)
     }
 
+    // How many numbers and buffers it takes.
+    pub fn takes(self) -> (usize, usize)
+        ensures { (result.0 ≤ 9) × (result.1 ≤ 6) }
+    {
+        match self {
+            Call::CodeSize | Call::BlockSize | Call::Root => (1, 1),
+            Call::DigitsSize => (2, 1),
+            Call::BlockPack | Call::QuerySum => (1, 2),
+            Call::DigitsPack | Call::CodeBit | Call::BlockLane => (2, 2),
+            Call::DigitsRead => (3, 2),
+            Call::CodeEncode | Call::CodeSum | Call::BlockSums => (1, 3),
+            Call::ScalarDistance => (3, 3),
+            Call::CodeRough | Call::CodeLowerBound | Call::BlockRough | Call::BlockLowerBounds => (
+                5, 3,
+            ),
+            Call::RerankNext => (0, 4),
+            Call::ScalarEncode | Call::RerankSupply => (2, 4),
+            Call::ScalarTable => (3, 4),
+            Call::Walk => (9, 6),
+        }
+    }
+
     // How many of its buffers it writes: these are the last ones.
-    pub fn written(self) -> usize {
+    pub fn written(self) -> usize
+        ensures { result ≤ 4 }
+    {
         match self {
             Call::Walk => 4,
             Call::RerankNext => 2,

@@ -11,9 +11,6 @@ const MOST_BYTES: usize = 40_000;
 
 const MOST_CHARACTERS: usize = 2 * MOST_BYTES + 2;
 
-// The most buffers of a line: the six of a walk, and again the four that it writes.
-const MOST_BUFFERS: usize = 10;
-
 // Why a line doesn't agree.
 #[derive(Clone, Copy, Debug, PartialEq, Eq)]
 pub enum Wrong {
@@ -84,39 +81,55 @@ fn byte_of(two: &[u8]) -> u8 {
     value(0).wrapping_mul(16).wrapping_add(value(1))
 }
 
-// The bytes whose digits stand at the start, up to the closing bracket, and no more than the longest buffer has.
+// The bytes whose digits stand at the start, up to the closing bracket, and no more than the longest buffer has. They are counted first, so
+// that they take no more room than they need.
 fn buffer(alloc: Global, digits: &[u8]) -> Result<Vec<u8>, AllocError>
     ensures { IfOk result (λ bytes. length bytes.items ≤ MOST_BYTES) }
 {
-    digits
+    let n = digits
         .chunks(2)
         .take_while(|two| !two.starts_with(b"]"))
         .take(MOST_BYTES)
+        .count();
+    digits
+        .chunks(2)
+        .take(n)
         .map(|two| byte_of(two))
         .collect(alloc)
 }
 
-// The numbers and the buffers of a line that has one =. A part stands after a space, and its first byte tells what it is.
-fn parts(alloc: Global, line: &[u8]) -> Result<(Vec<u32>, Vec<Vec<u8>>), Wrong> {
+// Whether the line has n parts whose first byte is one from low to high, and no more. A part stands after a space.
+fn has(line: &[u8], low: u8, high: u8, n: usize) -> bool
+    requires { n ≤ 10 }
+{
+    let parts = line
+        .windows(2)
+        .filter(|two| matches!(two, [b' ', c] if low <= *c && *c <= high));
+    parts.take(n + 1).count() == n
+}
+
+// Whether the line has one =, as many numbers and buffers as its call takes, the number that it returns, and the buffers that it writes.
+// They are counted before any is read, so that a line that has others takes no memory.
+fn well_formed(call: Call, line: &[u8]) -> bool {
+    let (numbers, buffers) = call.takes();
+    has(line, b'=', b'=', 1)
+        && has(line, b'0', b'9', numbers + 1)
+        && has(line, b'[', b'[', buffers + call.written())
+}
+
+// The numbers of a line, and what follows each opening bracket.
+fn parts(alloc: Global, line: &[u8]) -> Result<(Vec<u32>, Vec<&[u8]>), Wrong> {
     let mut numbers = Vec::new(alloc);
     let mut buffers = Vec::new(alloc);
-    let mut equals = false;
     for (i, c) in line.iter().enumerate() {
         if *c != b' ' {
             continue;
         }
         match &line[i + 1..] {
             part @ [b'0'..=b'9', ..] => numbers.push(number(part))?,
-            [b'[', digits @ ..] if buffers.len() < MOST_BUFFERS => {
-                buffers.push(buffer(alloc, digits)?)?;
-            }
-            [b'=', ..] if !equals => equals = true,
-            [b'[' | b'=', ..] => return Err(Wrong::Form),
+            [b'[', digits @ ..] => buffers.push(digits)?,
             _ => {}
         }
-    }
-    if !equals {
-        return Err(Wrong::Form);
     }
     Ok((numbers, buffers))
 }
@@ -129,22 +142,28 @@ fn too_long(line: &[u8]) -> bool {
 
 // Makes the line's call, and compares the number that it returns and the buffers that it writes.
 pub fn replay(alloc: Global, call: Call, line: &[u8]) -> Result<(), Wrong> {
-    let (mut numbers, mut buffers) = parts(alloc, line)?;
-    let wanted = numbers.pop().ok_or(Wrong::Form)?;
-    let taken = buffers
-        .len()
-        .checked_sub(call.written())
-        .ok_or(Wrong::Form)?;
-    let wanted_bytes = buffers.split_off(taken)?;
-    let got = call.make(&numbers, &mut buffers).ok_or(Wrong::Form)?;
+    if !well_formed(call, line) {
+        return Err(Wrong::Form);
+    }
     if too_long(line) {
         return Err(Wrong::TooLong);
     }
+    let (mut numbers, digits) = parts(alloc, line)?;
+    let wanted = numbers.pop().ok_or(Wrong::Form)?;
+    let (_, taken) = call.takes();
+    let (given, wanted_bytes) = digits.split_at_checked(taken).ok_or(Wrong::Form)?;
+    let mut buffers = Vec::new(alloc);
+    for digits in given {
+        buffers.push(buffer(alloc, digits)?)?;
+    }
+    let got = call.make(&numbers, &mut buffers).ok_or(Wrong::Form)?;
     if words::status(got) != wanted {
         return Err(Wrong::Number);
     }
-    if !buffers.ends_with(&wanted_bytes) {
-        return Err(Wrong::Bytes);
+    for (left, digits) in buffers.iter().rev().zip(wanted_bytes.iter().rev()) {
+        if *left != buffer(alloc, digits)? {
+            return Err(Wrong::Bytes);
+        }
     }
     Ok(())
 }

@@ -1,22 +1,31 @@
 -- Laws of specs/Estimate and specs/Record: a sum as a float, what is written of a code and of 32 lanes, tests for NaN. Assumes nothing.
 use mathlib.Core.Path.{◌≡◌, refl, sym, subst, ◌∙◌}
-use mathlib.Core.Bool.{false, not}
-use Prim.Native.Nat.{ℕ, ◌+◌, ◌*◌, ◌≤◌, ◌<◌}
+use mathlib.Core.Bool.{Bool, true, false, not, true≢false}
+use mathlib.Core.Logic.{inr}
+use Prim.Native.Nat.{ℕ, zero, suc, ◌+◌, ◌*◌, ◌^◌, ◌≤◌, ◌<◌}
+use native.Mathlib.Nat.{mul-pos}
 use native.Mathlib.Omega.{arith}
 use mathlib.Core.List.{List}
-use lib.Dec.{T}
+use lib.Dec.{T, ltb}
 use lib.ListN.{length, get_or, take, drop}
 use lib.Seq.{sets, length-sets, take_all}
 use lib.IntN.{pos}
-use lib.Ieee.{Float, nan, inf, fin, binary32, in_float, fits, is_nan, to_bits}
-use lib.Ieee.Fits.{add-fits, sub-fits}
-use borrow.Author.Tests.{le-leb}
+use lib.Ieee.{Float, nan, inf, fin, binary32, in_float, fits, is_nan, to_bits, lt, of_bits}
+use lib.Ieee.Bits.{of_bits-to_bits}
+use lib.Ieee.Exact.{HasValue}
+use lib.Ieee.Fits.{add-fits, sub-fits, up_pos, down_pos}
+use borrow.Author.Tests.{le-leb, le-false, lt-true, ltb-true, ltb-false}
 use Rattle.std.specs.Float.{float_is_finite}
 use Rattle.words.specs.Bytes.{f32_at, bytes_of, float_bytes, floats_of}
-use Rattle.words.specs.Floats.{not_finite, any_nan}
+use Rattle.words.specs.Floats.{not_finite, any_nan, plus_zero}
 use Rattle.words.specs.Limits.{most_sum}
 use Rattle.words.specs.declared.metric.Metric.{Metric}
 use Rattle.words.specs.declared.metric.Metric.TheVariants.{L2, Dot}
+use Rattle.std.specs.Prelude.{Option, Some, None}
+use Rattle.root.specs.Parts.{units_of}
+use Rattle.root.specs.Root.{root_of}
+use Rattle.root.proofs.CaseLaws.{root_below, root_same}
+use Rattle.root.proofs.PatternLaws.{bits_value}
 use Rattle.words.proofs.ListLaws.{none-at}
 use Rattle.words.proofs.WordsLaws.{words_more}
 use Rattle.code.specs.declared.parts.reader.Factors.{Factors}
@@ -88,3 +97,53 @@ unfolding float_is_finite
 finite_test nan = refl
 finite_test (inf s) = refl
 finite_test (fin s m e) = refl
+
+-- ---- numbers below 0, by their bits
+
+none_some : (o : Option Float) (v : Float) → None ≡ o → Some v ≡ o → ⊥
+none_some o v n s = subst (λ (x : Option Float). elim x as (λ _. Type 0) [ None ↦ Unit {0} | Some _ ↦ ⊥ ]) (n ∙ sym s) tt
+
+not_below : (v : Float) (n d : ℕ) → HasValue v false n d → false ≡ lt v plus_zero
+unfolding lt of_bits
+not_below nan n d h = absurd h
+not_below (inf s) n d h = absurd h
+not_below (fin true m e) n d h = absurd (true≢false h.0)
+not_below (fin false m e) n d h = le-false _ _ (omega arith)
+
+no_root-below : (v : Float) → None ≡ root_of v → is_nan v ≡ false → true ≡ lt v plus_zero
+unfolding root_of lt of_bits is_nan
+no_root-below nan r n = absurd (true≢false n)
+no_root-below (inf true) r n = refl
+no_root-below (inf false) r n = absurd (none_some _ _ r refl)
+no_root-below (fin s zero e) r n = absurd (none_some _ _ r refl)
+no_root-below (fin true (suc m) e) r n =
+    let some : 0 < suc m = omega arith in
+    lt-true _ _ (omega (arith, mul-pos (mul-pos some (up_pos e)) (down_pos (pos 0))))
+no_root-below (fin false (suc m) e) r n = absurd (none_some _ _ r refl)
+
+same_root-not_below : (v : Float) → Some v ≡ root_of v → false ≡ lt v plus_zero
+unfolding root_of lt of_bits
+same_root-not_below nan r = absurd (none_some _ _ refl r)
+same_root-not_below (inf true) r = absurd (none_some _ _ refl r)
+same_root-not_below (inf false) r = refl
+same_root-not_below (fin false m e) r = le-false _ _ (omega arith)
+same_root-not_below (fin true zero e) r = le-false _ _ (omega arith)
+same_root-not_below (fin true (suc m) e) r = absurd (none_some _ _ refl r)
+
+-- a pattern above that of -0.0 is of a number below 0, or of a NaN
+pub below_zero_bits : (x : Float) → T (fits binary32 x) → is_nan x ≡ false → ltb 0x8000_0000 (to_bits binary32 x) ≡ lt x plus_zero
+below_zero_bits x f n = go (ltb 0x8000_0000 (to_bits binary32 x)) refl
+  where
+    b : ℕ
+    b = to_bits binary32 x
+
+    go : (t : Bool) → ltb 0x8000_0000 b ≡ t → t ≡ lt x plus_zero
+    go true t = no_root-below x (root_below x f (ltb-true _ _ t)) n
+    go false t = by_top (ltb b 0x7F80_0000) refl
+      where
+        by_top : (s : Bool) → ltb b 0x7F80_0000 ≡ s → false ≡ lt x plus_zero
+        by_top true s =
+            not_below x _ _ (subst (λ (v : Float). HasValue v false (units_of b) (2 ^ 149)) (of_bits-to_bits binary32 x f) (bits_value b (ltb-true _ _ s)))
+        by_top false s =
+            let high : 0x7F80_0000 ≤ b = ltb-false _ _ s in
+            same_root-not_below x (root_same x f n (ltb-false _ _ t) (inr ((λ e. omega (arith, high, e)), high)))

@@ -2,6 +2,8 @@
 #![tactic(auto)]
 
 ghost use Rattle.std.specs.Prelude.{◌≡◌, cond, IfOk};
+ghost use Rattle.std.specs.Float.Ieee.{lt};
+ghost use Rattle.words.specs.Floats.{plus_zero};
 ghost use Rattle.words.specs.Refusals.{status, bad_length, RefusedIf};
 ghost use Rattle.words.specs.declared.refusal.Refusal.TheVariants.{Missing};
 ghost use Rattle.estimate.specs.Calls.{missing_query, bad_query, code_answer, block_answer};
@@ -55,11 +57,18 @@ impl Query {
         ensures codes { IfOk result (λ q. q ≡ codes.now) }
     {
         let codes = QueryCodes::judged(dims, codes)?;
-        if self.dis_v_2 < 0.0 {
+        if below_zero(self.dis_v_2) {
             return Err(Refusal::BadValue);
         }
         Ok(codes)
     }
+}
+
+// By the bits: a mode of the machine that takes subnormal numbers for 0 changes no refusal.
+fn below_zero(x: f32) -> bool
+    ensures { result ≡ lt x plus_zero }
+{
+    !x.is_nan() && 0x8000_0000 < x.to_bits()
 }
 
 // The number asked for of a single code, as the four bytes of out.

@@ -74,7 +74,7 @@ from b l h =
 
 -- ---- an even power
 
-parted : (m e j k : ℕ) → e ≡ j + (k + k) → m * 2 ^ j * (2 ^ k * 2 ^ k) ≡ m * 2 ^ e
+pub parted : (m e j k : ℕ) → e ≡ j + (k + k) → m * 2 ^ j * (2 ^ k * 2 ^ k) ≡ m * 2 ^ e
 parted m e j k h = ap (λ (x : ℕ). m * 2 ^ j * x) (sym (pow-add 2 k k)) ∙ joined m j (k + k) e (sym h)
 
 abbrev pub Bounds : ℕ → ℕ → Type 0

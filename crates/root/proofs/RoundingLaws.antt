@@ -17,19 +17,19 @@ use Rattle.root.proofs.SquareLaws.{Floor, root_lt, isqrt_is}
 
 -- ---- small laws
 
-compare-lt : (a b : ℕ) → a < b → compare a b ≡ Ordering.lt
+pub compare-lt : (a b : ℕ) → a < b → compare a b ≡ Ordering.lt
 compare-lt zero zero h = absurd (not-suc-le-zero h)
 compare-lt zero (suc b) h = compare.zero-suc b
 compare-lt (suc a) zero h = absurd (not-suc-le-zero h)
 compare-lt (suc a) (suc b) h = compare.suc-suc a b ∙ compare-lt a b (le_of_suc-le-suc h)
 
-compare_gt : (a b : ℕ) → b < a → compare a b ≡ Ordering.gt
+pub compare_gt : (a b : ℕ) → b < a → compare a b ≡ Ordering.gt
 compare_gt zero zero h = absurd (not-suc-le-zero h)
 compare_gt zero (suc b) h = absurd (not-suc-le-zero h)
 compare_gt (suc a) zero h = compare.suc-zero a
 compare_gt (suc a) (suc b) h = compare.suc-suc a b ∙ compare_gt a b (le_of_suc-le-suc h)
 
-div_is : (w p q : ℕ) → 0 < p → q * p ≤ w → w < suc q * p → w / p ≡ q
+pub div_is : (w p q : ℕ) → 0 < p → q * p ≤ w → w < suc q * p → w / p ≡ q
 div_is w p q P l u = le_antisymm (le_of_suc-le-suc ((div-lt_iff_lt-mul P).1 u)) ((le-div_iff_mul-le P).1 l)
 
 -- ---- the root of n * 4 ^ k begins with the root of n

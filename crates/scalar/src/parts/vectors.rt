@@ -29,7 +29,8 @@ impl<'a> Model for Vectors<'a> {
 }
 
 impl<'a> Vectors<'a> {
-    // Refuses what is of another length, then a NaN or an infinity, then a min above its max.
+    // Refuses what is of another length, then a NaN or an infinity, then a min above its max. What it makes has a call's dims, which the
+    // type alone doesn't say.
     #[tactic(auto, unfolding(crate::specs::Calls::vectors_number, crate::specs::Calls::bad_vectors, crate::specs::Calls::any_missing))]
     pub fn judged(
         dims: Dims<MOST_SCALAR_DIMS>,
@@ -39,6 +40,7 @@ impl<'a> Vectors<'a> {
     ) -> Result<Vectors<'a>, Refusal>
         ensures refused { status result ≡ vectors_number dims vector.now lo.now hi.now false false }
         ensures made { IfOk result (λ v. v ≡ record { dims = dims; vector = vector.now; lo = lo.now; hi = hi.now }) }
+        ensures few { IfOk result (λ v. (0 < v.dims) × (v.dims ≤ most_scalar_dims)) }
     {
         let n = dims.get();
         has_length(vector, 4 * n)?;
